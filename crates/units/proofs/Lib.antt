@@ -1,0 +1,5 @@
+pub mod Numbers
+pub mod Parts
+pub mod Writes
+pub mod Sums
+pub mod Tables

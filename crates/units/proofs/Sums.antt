@@ -1,0 +1,187 @@
+-- Laws of sums of units, each over the width, and THE fact: one unit replaced by a different one makes the sum wrong. Assumes nothing.
+use mathlib.Core.Path.{_≡_, refl, sym, ap, _∙_}
+use mathlib.Core.List.{List, [], _∷_, _++_, append-assoc, append-nil}
+use mathlib.Core.Bool.{Bool, true, false}
+use mathlib.Core.Logic.{_≢_}
+use Prim.Native.Nat.{ℕ, zero, suc, _+_, _-_, _*_, _/_, _%_, _^_, _≤_, _<_}
+use native.Mathlib.Omega.{arith}
+use native.Mathlib.Decide.{decLt}
+use native.Mathlib.Nat.{zero-add, add-zero, add-left-comm, mul-zero, mul-suc, mod-one, mod-lt, mod-eq-of-lt, mod-add-mod, add-mul-mod-self-left, div-add-mod, suc-add, le-dest, mul-le-mul-left}
+use native.Mathlib.Numerals.{add-one}
+use lib.Dec.{eqb}
+use lib.ListN.{length, take, drop, length-append, length-drop, take-append-drop}
+use lib.Seq.{length-take-le, drop-drop, take-append-le, drop-append-le, drop-append-add, take-all, take-at, drop-at}
+use borrow.Author.Tests.{eqb-true, eq-eqb, ne-eqb}
+use Rattle.units.specs.Units.{Bytes, part, num, field, bytesOf, splice, sumUnits, checksum, closed, summed, Changed}
+use Rattle.units.proofs.Numbers.{pow-pos, bytes-append, bytes-left, bytes-right, length-bytesOf, bytes-bytesOf, num-bytesOf-mod, num-inj, num-lt}
+use Rattle.units.proofs.Writes.{length-splice, part-splice-before}
+
+-- ---- modulo
+
+pub mod-cancel : (a b c M : ℕ) → 0 < M → (a + c) % M ≡ (b + c) % M → a % M ≡ b % M
+mod-cancel a b c M p e = sym (shift a) ∙ ap (λ (n : ℕ). (n + (M - c % M)) % M) e ∙ shift b
+  where
+    shift : (x : ℕ) → ((x + c) % M + (M - c % M)) % M ≡ x % M
+    shift x =
+        let d : x + c + (M - c % M) ≡ x + M * suc (c / M) = omega (arith, div-add-mod c M, mod-lt c p, mul-suc M (c / M)) in
+        mod-add-mod (x + c) M (M - c % M) ∙ ap (λ (n : ℕ). n % M) d ∙ add-mul-mod-self-left x M (suc (c / M))
+
+-- ---- sums of units
+
+-- one unit more, at the end
+pub sum-snoc : (w k : ℕ) (bs : List ℕ) → sumUnits w (suc k) bs ≡ sumUnits w k bs + field bs (w * k) w
+unfolding sumUnits
+sum-snoc w zero bs = rw mul-zero (omega arith)
+sum-snoc w (suc k) bs =
+    let i : w + w * k ≡ w * suc k = omega (arith, mul-suc w k) in
+    let d : drop (w * k) (drop w bs) ≡ drop (w * suc k) bs = drop-drop (w * k) w bs ∙ ap (λ (n : ℕ). drop n bs) i in
+    let ih : sumUnits w (suc k) (drop w bs) ≡ sumUnits w k (drop w bs) + field (drop w bs) (w * k) w = sum-snoc w k (drop w bs) in
+    rw (← d) (omega arith)
+
+-- a turn of a loop that adds modulo 256 ^ w
+pub sum-step : (w k : ℕ) (bs : List ℕ) (acc x : ℕ) → acc ≡ checksum w k bs → x ≡ field bs (w * k) w
+    → (acc + x) % 256 ^ w ≡ checksum w (k + 1) bs
+sum-step w k bs acc x e f = rw (add-one, sum-snoc, e, f) (mod-add-mod (sumUnits w k bs) (256 ^ w) (field bs (w * k) w))
+
+pub sum-append : (w j k : ℕ) (xs ys : List ℕ) → length xs ≡ w * j → sumUnits w (j + k) (xs ++ ys) ≡ sumUnits w j xs + sumUnits w k ys
+unfolding sumUnits
+sum-append w zero k [] ys e = rw (zero-add k) (omega arith)
+sum-append w zero k (x ∷ xs) ys e = absurd (let z : w * 0 ≡ 0 = mul-zero w in omega arith)
+sum-append w (suc j) k xs ys e =
+    let l : w ≤ length xs = omega (arith, mul-suc w j) in
+    let m : length (drop w xs) ≡ w * j = simp length-drop (omega (arith, mul-suc w j)) in
+    let ih : sumUnits w (j + k) (drop w xs ++ ys) ≡ sumUnits w j (drop w xs) + sumUnits w k ys = sum-append w j k (drop w xs) ys m in
+    rw (suc-add, sumUnits, take-append-le w xs ys, drop-append-le w xs ys) (omega arith)
+
+-- bytes behind the last unit have no say
+pub sum-over : (w k : ℕ) (xs ys : List ℕ) → length xs ≡ w * k → sumUnits w k (xs ++ ys) ≡ sumUnits w k xs
+unfolding sumUnits
+sum-over w k xs ys h =
+    let e : sumUnits w (k + 0) (xs ++ ys) ≡ sumUnits w k xs + 0 = sum-append w k 0 xs ys h in
+    simp add-zero at e
+
+pub sum-take : (w k : ℕ) (bs : List ℕ) → w * k ≤ length bs → sumUnits w k (take (w * k) bs) ≡ sumUnits w k bs
+sum-take w k bs h =
+    sym (sum-over w k (take (w * k) bs) (drop (w * k) bs) (length-take-le (w * k) bs h)) ∙ ap (sumUnits w k) (take-append-drop (w * k) bs)
+
+pub sum-agree : (w k : ℕ) (xs ys : List ℕ) → w * k ≤ length xs → w * k ≤ length ys → take (w * k) xs ≡ take (w * k) ys → sumUnits w k xs ≡ sumUnits w k ys
+sum-agree w k xs ys hx hy e = sym (sum-take w k xs hx) ∙ ap (sumUnits w k) e ∙ sum-take w k ys hy
+
+-- so what is written behind them does not count
+pub sum-splice-behind : (w k : ℕ) (bs : List ℕ) (at : ℕ) (vs : List ℕ) → at + length vs ≤ length bs → w * k ≤ at
+    → sumUnits w k (splice bs at vs) ≡ sumUnits w k bs
+sum-splice-behind w k bs at vs h l =
+    sum-agree w k (splice bs at vs) bs (omega (arith, length-splice bs at vs h)) (omega arith)
+    (part-splice-before bs at vs h 0 (w * k) (omega arith))
+
+-- one unit and what stands around it
+pub sum-around : (w j k : ℕ) (pre u post : List ℕ) → length pre ≡ w * j → length u ≡ w
+    → sumUnits w (j + suc k) (pre ++ (u ++ post)) ≡ num u + (sumUnits w j pre + sumUnits w k post)
+unfolding sumUnits
+sum-around w j k pre u post e f =
+    rw (sum-append w j (suc k) pre (u ++ post) e, sumUnits, take-at u post w f, drop-at u post w f) (add-left-comm (sumUnits w j pre) (num u) (sumUnits w k post))
+
+-- ---- a sum behind what it adds up
+
+pub summed-says : (w k : ℕ) (xs : List ℕ) → summed w k xs ≡ true → checksum w k xs ≡ field xs (w * k) w
+unfolding summed
+summed-says w k xs t = eqb-true (checksum w k xs) (field xs (w * k) w) t
+
+pub summed-made : (w k : ℕ) (xs : List ℕ) → checksum w k xs ≡ field xs (w * k) w → summed w k xs ≡ true
+unfolding summed
+summed-made w k xs e = eq-eqb (checksum w k xs) (field xs (w * k) w) e
+
+pub summed-wrong : (w k : ℕ) (xs : List ℕ) → (checksum w k xs ≡ field xs (w * k) w → ⊥) → summed w k xs ≡ false
+unfolding summed
+summed-wrong w k xs d = ne-eqb (checksum w k xs) (field xs (w * k) w) d
+
+pub field-last : (w k : ℕ) (xs u : List ℕ) → length xs ≡ w * k → length u ≡ w → field (xs ++ u) (w * k) w ≡ num u
+field-last w k xs u hx hu = rw (drop-at xs u (w * k) hx, take-all w u (omega arith))
+
+pub length-closed : (w k : ℕ) (xs : List ℕ) → length (closed w k xs) ≡ length xs + w
+unfolding closed
+length-closed w k xs = rw (length-append, length-bytesOf)
+
+pub bytes-closed : (w k : ℕ) (xs : List ℕ) → Bytes xs → Bytes (closed w k xs)
+unfolding closed
+bytes-closed w k xs h = bytes-append xs (bytesOf w (sumUnits w k xs)) h (bytes-bytesOf w (sumUnits w k xs))
+
+-- units with their sum behind them pass, and only that sum does
+pub summed-closed : (w k : ℕ) (xs : List ℕ) → length xs ≡ w * k → summed w k (closed w k xs) ≡ true
+unfolding closed
+summed-closed w k xs h =
+    let s = bytesOf w (sumUnits w k xs) in
+    summed-made w k (xs ++ s)
+    (rw (sum-over w k xs s h, field-last w k xs s h (length-bytesOf w (sumUnits w k xs)), num-bytesOf-mod w (sumUnits w k xs)))
+
+pub closed-of : (w k : ℕ) (xs u : List ℕ) → length xs ≡ w * k → length u ≡ w → Bytes u → summed w k (xs ++ u) ≡ true → xs ++ u ≡ closed w k xs
+unfolding closed
+closed-of w k xs u hx hu bu t =
+    ap (λ (r : List ℕ). xs ++ r) (num-inj u (bytesOf w (sumUnits w k xs)) bu (bytes-bytesOf w (sumUnits w k xs)) (hu ∙ sym (length-bytesOf w (sumUnits w k xs)))
+    (cc (summed-says w k (xs ++ u) t, sum-over w k xs u hx, field-last w k xs u hx hu, num-bytesOf-mod w (sumUnits w k xs))))
+
+-- a sum of no width is there in every list
+pub summed-none : (k : ℕ) (xs : List ℕ) → summed 0 k xs ≡ true
+unfolding num
+summed-none k xs = summed-made 0 k xs (mod-one (sumUnits 0 k xs))
+
+pub closed-none : (k : ℕ) (xs : List ℕ) → closed 0 k xs ≡ xs
+unfolding closed bytesOf
+closed-none k xs = append-nil xs
+
+-- ---- what a sum sees, at every width
+
+num-below : (w : ℕ) (xs : List ℕ) → length xs ≡ w → Bytes xs → num xs < 256 ^ w
+num-below w xs h b = rw (← h) (num-lt xs b)
+
+module _ (w : ℕ) (front old new back : List ℕ) (ho : length old ≡ w) (hn : length new ≡ w) (bo : Bytes old) (bn : Bytes new) where
+  -- units that stand for each other in a sum are the same
+  one-unit : (j k : ℕ) → length front ≡ w * j
+      → checksum w (j + suc k) (front ++ (old ++ back)) ≡ checksum w (j + suc k) (front ++ (new ++ back)) → old ≡ new
+  one-unit j k hf e =
+      let rest = sumUnits w j front + sumUnits w k back in
+      let c : (num old + rest) % 256 ^ w ≡ (num new + rest) % 256 ^ w = rw (sum-around w j k front old back hf ho, sum-around w j k front new back hf hn) at e in
+      let m : num old % 256 ^ w ≡ num new % 256 ^ w = mod-cancel (num old) (num new) rest (256 ^ w) (pow-pos w) c in
+      num-inj old new bo bn (ho ∙ sym hn) (rw (mod-eq-of-lt (num-below w old ho bo), mod-eq-of-lt (num-below w new hn bn)) at m)
+
+  -- the sum that stands behind a unit does not move with it
+  behind : (unit : List ℕ) (j m : ℕ) → length front ≡ w * j → length unit ≡ w → field (front ++ (unit ++ back)) (w * (j + suc m)) w ≡ field back (w * m) w
+  behind unit j m hf hu =
+      let e : w * (j + suc m) ≡ length (front ++ unit) + w * m = rw length-append (omega arith) in
+      rw (← append-assoc, e, drop-append-add)
+
+  sum-front : (j m : ℕ) → old ≢ new → length front ≡ w * j → summed w (j + suc m) (front ++ (old ++ back)) ≡ true → summed w (j + suc m) (front ++ (new ++ back)) ≡ false
+  sum-front j m d hf t = summed-wrong w (j + suc m) (front ++ (new ++ back)) λ e.
+      d (one-unit j m hf (summed-says w (j + suc m) (front ++ (old ++ back)) t ∙ behind old j m hf ho ∙ sym (behind new j m hf hn) ∙ sym e))
+
+  -- and the sum's own unit stands alone
+  own : (unit : List ℕ) (k : ℕ) → length front ≡ w * k → length unit ≡ w → field (front ++ (unit ++ back)) (w * k) w ≡ num unit
+  own unit k hf hu = rw (drop-at front (unit ++ back) (w * k) hf, take-at unit back w hu)
+
+  sum-last : (k : ℕ) → old ≢ new → length front ≡ w * k → summed w k (front ++ (old ++ back)) ≡ true → summed w k (front ++ (new ++ back)) ≡ false
+  sum-last k d hf t = summed-wrong w k (front ++ (new ++ back)) λ e.
+      d (num-inj old new bo bn (ho ∙ sym hn)
+      (cc (summed-says w k (front ++ (old ++ back)) t, e, own old k hf ho, own new k hf hn, sum-over w k front (old ++ back) hf, sum-over w k front (new ++ back) hf)))
+
+-- THE fact, at every width: k units and their sum, one of them, the sum's own too, replaced by a different one: the sum is wrong
+pub sum-sees : (w k j : ℕ) (xs ys : List ℕ) → 0 < w → length xs ≡ w * suc k → Bytes xs → Changed w j xs ys → summed w k xs ≡ true → summed w k ys ≡ false
+sum-sees w k j xs ys hw hl bx c t = rw (c .is) (go (decLt j k) (decLt k j))
+  where
+    t' : summed w k (c .front ++ (c .old ++ c .back)) ≡ true
+    t' = rw (c .was) at t
+
+    bo : Bytes (c .old)
+    bo = bytes-left (c .old) (c .back) (bytes-right (c .front) (c .old ++ c .back) (rw (c .was) at bx))
+
+    len : w * j + w + length (c .back) ≡ w * suc k
+    len = omega (arith, simp (length-append, c .was, c .place, c .old-width) at hl)
+
+    go : Dec (j < k) → Dec (k < j) → summed w k (c .front ++ (c .new ++ c .back)) ≡ false
+    go (yes l) _ =
+        let (m, e) = le-dest l in
+        let e' : k ≡ j + suc m = omega arith in
+        rw e' (sum-front w (c .front) (c .old) (c .new) (c .back) (c .old-width) (c .new-width) bo (c .new-bytes) j m (c .differs) (c .place) (rw e' at t'))
+    go (no g) (yes l) = absurd (omega (arith, mul-le-mul-left w l, mul-suc w k, len))
+    go (no g) (no h) =
+        let e : j ≡ k = omega arith in
+        sum-last w (c .front) (c .old) (c .new) (c .back) (c .old-width) (c .new-width) bo (c .new-bytes) k (c .differs) (rw (← e) (c .place)) t'

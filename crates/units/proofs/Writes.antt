@@ -1,0 +1,103 @@
+-- Laws of what is written: `splice`, runs of writes, and a loop that writes a byte a turn. Assumes nothing.
+use mathlib.Core.Path.{_≡_, refl, sym, ap, _∙_}
+use mathlib.Core.List.{List, [], _∷_, _++_, append-assoc}
+use Prim.Native.Nat.{ℕ, _+_, _-_, _%_, _/_, _^_, _≤_, _<_}
+use native.Mathlib.Omega.{arith}
+use native.Mathlib.Nat.{add-assoc}
+use native.Mathlib.Numerals.{add-one}
+use lib.ListN.{length, take, drop, getD, set, length-append, length-take, length-drop, take-append-drop}
+use lib.Seq.{paste, paste-suc, take-length, sets, sets-eq, length-take-le, take-take, drop-drop, take-add, drop-append-le, take-at, drop-at}
+use Rattle.units.specs.Units.{part, num, field, bytesOf, splice}
+use Rattle.units.proofs.Numbers.{length-bytesOf, bytesOf-add, bytesOf-mod}
+use Rattle.units.proofs.Parts.{part-front}
+
+-- what is written, and what stands before and behind it
+module _ (bs : List ℕ) (at : ℕ) (vs : List ℕ) (fits : at + length vs ≤ length bs) where
+  front : length (take at bs) ≡ at
+  front = length-take-le at bs (omega arith)
+
+  head : length (take at bs ++ vs) ≡ at + length vs
+  head = simp length-append (omega (arith, front))
+
+  pub length-splice : length (splice bs at vs) ≡ length bs
+  length-splice = simp (length-append, length-drop) (omega (arith, front))
+
+  pub take-splice : take (at + length vs) (splice bs at vs) ≡ take at bs ++ vs
+  take-splice = take-at (take at bs ++ vs) (drop (at + length vs) bs) (at + length vs) head
+
+  pub drop-splice : drop (at + length vs) (splice bs at vs) ≡ drop (at + length vs) bs
+  drop-splice = drop-at (take at bs ++ vs) (drop (at + length vs) bs) (at + length vs) head
+
+  pub part-splice-same : part (splice bs at vs) at (length vs) ≡ vs
+  part-splice-same =
+      rw (append-assoc (take at bs) vs (drop (at + length vs) bs), drop-at (take at bs) (vs ++ drop (at + length vs) bs) at front)
+      (take-at vs (drop (at + length vs) bs) (length vs) refl)
+
+  pub part-splice-before : (b m : ℕ) → b + m ≤ at → part (splice bs at vs) b m ≡ part bs b m
+  part-splice-before b m h =
+      let k : b + m ≤ length (take at bs) = omega (arith, front) in
+      rw append-assoc
+      (part-front (take at bs) (vs ++ drop (at + length vs) bs) b m k
+      ∙ sym (part-front (take at bs) (drop at bs) b m k)
+      ∙ ap (λ (l : List ℕ). part l b m) (take-append-drop at bs))
+
+  pub part-splice-behind : (b m : ℕ) → at + length vs ≤ b → part (splice bs at vs) b m ≡ part bs b m
+  part-splice-behind b m h =
+      let e : at + length vs + (b - (at + length vs)) ≡ b = omega arith in
+      ap (λ (l : List ℕ). take m l)
+      (ap (λ (n : ℕ). drop n (splice bs at vs)) (sym e)
+      ∙ sym (drop-drop (b - (at + length vs)) (at + length vs) (splice bs at vs))
+      ∙ ap (drop (b - (at + length vs))) drop-splice
+      ∙ drop-drop (b - (at + length vs)) (at + length vs) bs
+      ∙ ap (λ (n : ℕ). drop n bs) e)
+
+  -- a write right behind another is one write
+  pub splice-splice : (next : ℕ) (us : List ℕ) → next ≡ at + length vs → next + length us ≤ length bs
+      → splice (splice bs at vs) next us ≡ splice bs at (vs ++ us)
+  splice-splice next us e more =
+      let f : at + length vs + length us ≡ at + length (vs ++ us) = omega (arith, length-append vs us) in
+      rw (e, take-splice, ← drop-drop (length us) (at + length vs) (splice bs at vs), drop-splice, drop-drop, f)
+      (simp append-assoc)
+
+-- two calls that write one behind the other
+pub chain : (b₀ b₁ b₂ : List ℕ) (at next : ℕ) (xs ys : List ℕ) → b₁ ≡ splice b₀ at xs → b₂ ≡ splice b₁ next ys → next ≡ at + length xs
+    → next + length ys ≤ length b₀ → b₂ ≡ splice b₀ at (xs ++ ys)
+chain b₀ b₁ b₂ at next xs ys e f is fits = f ∙ rw e (splice-splice b₀ at xs (omega arith) next ys is fits)
+
+-- a number written in two goes: its low n bytes, then m more
+pub put-two : (n m : ℕ) (b₀ b₁ b₂ : List ℕ) (at v : ℕ) → at + (n + m) ≤ length b₀
+    → b₁ ≡ splice b₀ at (bytesOf n (v % 256 ^ n)) → b₂ ≡ splice b₁ (at + n) (bytesOf m (v / 256 ^ n % 256 ^ m))
+    → b₂ ≡ splice b₀ at (bytesOf (n + m) v)
+put-two n m b₀ b₁ b₂ at v fits e f =
+    let low = bytesOf n (v % 256 ^ n) in
+    let high = bytesOf m (v / 256 ^ n % 256 ^ m) in
+    let l : length low ≡ n = length-bytesOf n (v % 256 ^ n) in
+    let h : length high ≡ m = length-bytesOf m (v / 256 ^ n % 256 ^ m) in
+    chain b₀ b₁ b₂ at (at + n) low high e f (omega arith) (omega arith)
+    ∙ rw (bytesOf-mod n v, bytesOf-mod m (v / 256 ^ n), bytesOf-add n m v) refl
+
+-- a run of stores of a number's bytes; on numerals the left side computes to the stores themselves
+pub stored : (n v : ℕ) (bs : List ℕ) (at : ℕ) → at + n ≤ length bs → sets bs at (bytesOf n v) ≡ splice bs at (bytesOf n v)
+stored n v bs at h = sets-eq (bytesOf n v) bs at (omega (arith, length-bytesOf n v))
+
+-- a loop that writes a list over another, a byte a turn: `paste d at s i` is d with the first i of s written
+pub paste-step : (d : List ℕ) (at : ℕ) (s : List ℕ) (i v : ℕ) → at + length s ≤ length d → i < length s → getD s i 0 ≡ v
+    → set (paste d at s i) (at + i) v ≡ paste d at s (i + 1)
+paste-step d at s i v h l e = rw (add-one, ← e) (paste-suc d at s i 0 (omega arith) l)
+
+pub paste-whole : (d : List ℕ) (at : ℕ) (s : List ℕ) (i : ℕ) → i ≡ length s → paste d at s i ≡ splice d at s
+paste-whole d at s i e = rw e (ap (λ (l : List ℕ). take at d ++ l ++ drop (at + length s) d) (take-length s))
+
+-- what is written in a part, when the part is back in the whole
+pub splice-part : (bs : List ℕ) (a k at : ℕ) (vs : List ℕ) → a + k ≤ length bs → at + length vs ≤ k
+    → take a bs ++ (splice (part bs a k) at vs ++ drop k (drop a bs)) ≡ splice bs (a + at) vs
+splice-part bs a k at vs h l =
+    let j : at ≤ k = omega arith in
+    let n : at + length vs ≤ length (take k (drop a bs)) = simp (length-take, length-drop) (omega arith) in
+    let start : take at (take k (drop a bs)) ≡ take at (drop a bs) = take-take at k (drop a bs) j in
+    let back : drop (at + length vs) (take k (drop a bs)) ++ drop k (drop a bs) ≡ drop (a + at + length vs) bs =
+    sym (drop-append-le (at + length vs) (take k (drop a bs)) (drop k (drop a bs)) n)
+    ∙ ap (drop (at + length vs)) (take-append-drop k (drop a bs))
+    ∙ drop-drop (at + length vs) a bs
+    ∙ ap (λ (m : ℕ). drop m bs) (sym (add-assoc a at (length vs))) in
+    rw (start, take-add a at bs, ← back) (simp append-assoc)

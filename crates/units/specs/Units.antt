@@ -1,0 +1,98 @@
+-- Bytes, little-endian numbers and sums of units: what every contract above is written in.
+use mathlib.Core.Path.{_≡_}
+use mathlib.Core.List.{List, [], _∷_, _++_}
+use mathlib.Core.Bool.{Bool, true, false, _&&_}
+use mathlib.Core.Logic.{_≢_}
+use Prim.Native.Nat.{ℕ, zero, suc, _+_, _*_, _/_, _%_, _^_, _<_}
+use lib.Dec.{eqb}
+use lib.ListN.{length, take, drop}
+
+-- ---- bytes and places
+
+-- every element is a byte
+unfoldable pub Bytes : List ℕ → Type 0
+Bytes [] = Unit {0}
+Bytes (b ∷ bs) = (b < 256) × Bytes bs
+
+-- the n bytes from `at` on
+abbrev pub part : List ℕ → ℕ → ℕ → List ℕ
+part bs at n = take n (drop at bs)
+
+-- vs written over bs from `at` on
+abbrev pub splice : List ℕ → ℕ → List ℕ → List ℕ
+splice bs at vs = take at bs ++ vs ++ drop (at + length vs) bs
+
+-- whether every byte is zero
+unfoldable pub zeros : List ℕ → Bool
+zeros [] = true
+zeros (b ∷ bs) = eqb b 0 && zeros bs
+
+-- ---- little-endian numbers
+
+-- the value of some bytes, low byte first
+unfoldable pub num : List ℕ → ℕ
+num [] = 0
+num (b ∷ bs) = b + 256 * num bs
+
+-- the value of the n bytes from `at` on
+abbrev pub field : List ℕ → ℕ → ℕ → ℕ
+field bs at n = num (part bs at n)
+
+-- the n low bytes of v, low byte first
+unfoldable pub bytesOf : ℕ → ℕ → List ℕ
+bytesOf zero v = []
+bytesOf (suc n) v = v % 256 ∷ bytesOf n (v / 256)
+
+-- ---- sums of units
+
+-- the first k units of w bytes, added up
+unfoldable pub sumUnits : ℕ → ℕ → List ℕ → ℕ
+sumUnits w zero bs = 0
+sumUnits w (suc k) bs = num (take w bs) + sumUnits w k (drop w bs)
+
+-- the same modulo 2 to the width in bits
+abbrev pub checksum : ℕ → ℕ → List ℕ → ℕ
+checksum w k bs = sumUnits w k bs % 256 ^ w
+
+-- the sum of the eleven 16-bit words ahead of it (11.2.1.1)
+abbrev pub headerSum : List ℕ → ℕ
+headerSum bs = checksum 2 11 bs
+
+-- the sum of the five 16-bit words before it (secondary header)
+abbrev pub secondarySum : List ℕ → ℕ
+secondarySum bs = checksum 2 5 bs
+
+-- the data sum's width in bytes, by bits 1-0 of the flags: none, 8, 16 or 32 bits
+abbrev pub sumWidth : ℕ → ℕ
+sumWidth zero = 0
+sumWidth (suc zero) = 1
+sumWidth (suc (suc zero)) = 2
+sumWidth (suc (suc (suc n))) = 4
+
+-- body and filler in units of the sum's own width (trailer)
+abbrev pub dataSum : ℕ → List ℕ → ℕ
+dataSum code bs = checksum (sumWidth code) (length bs / sumWidth code) bs
+
+-- ---- a sum that stands behind what it adds up
+
+-- k units of w bytes, and behind them their sum in w bytes
+unfoldable pub closed : ℕ → ℕ → List ℕ → List ℕ
+closed w k bs = bs ++ bytesOf w (sumUnits w k bs)
+
+-- whether the unit behind the first k units of w bytes is their sum
+unfoldable pub summed : ℕ → ℕ → List ℕ → Bool
+summed w k bs = eqb (checksum w k bs) (field bs (w * k) w)
+
+-- ys is xs with its unit number j, of w bytes, replaced by a different one
+pub record Changed (w j : ℕ) (xs ys : List ℕ) : Type 0 where
+  pub front : List ℕ
+  pub old : List ℕ
+  pub new : List ℕ
+  pub back : List ℕ
+  pub was : xs ≡ front ++ (old ++ back)
+  pub is : ys ≡ front ++ (new ++ back)
+  pub place : length front ≡ w * j
+  pub old-width : length old ≡ w
+  pub new-width : length new ≡ w
+  pub new-bytes : Bytes new
+  pub differs : old ≢ new

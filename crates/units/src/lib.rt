@@ -1,0 +1,188 @@
+// Little-endian numbers in byte slices, copying and clearing, and sums of units.
+ghost use mathlib.Core.Path.{_≡_};
+ghost use Prim.Native.Nat.{_+_, _*_, _<_, _≤_};
+ghost use lib.ListN.{length, replicate};
+ghost use Rattle.units.specs.Units.{field, bytesOf, splice, checksum, headerSum, secondarySum, dataSum, zeros};
+
+// A byte as a wider number that is known to stay below 256.
+fn wide(x: u8) -> u16
+    ensures { λ r. ⌜ (r ≡ x) × (r < 256) ⌝ }
+{
+    x as u16
+}
+
+// The number in the 2 bytes from `at` on.
+pub fn read16(s: &[u8], at: usize) -> u16
+    requires { ⌜ at + 2 ≤ length (now s) ⌝ }
+    ensures { λ r. ⌜ r ≡ field (now (s .entry)) at 2 ⌝ }
+{
+    wide(s[at]) + wide(s[at + 1]) * 256
+}
+
+// The number in the 4 bytes from `at` on.
+pub fn read32(s: &[u8], at: usize) -> u32
+    requires { ⌜ at + 4 ≤ length (now s) ⌝ }
+    ensures { λ r. ⌜ r ≡ field (now (s .entry)) at 4 ⌝ }
+{
+    let low = read16(s, at);
+    let high = read16(s, at + 2);
+    low as u32 + high as u32 * 65536
+}
+
+// The number in the 6 bytes from `at` on.
+pub fn read48(s: &[u8], at: usize) -> u64
+    requires { ⌜ at + 6 ≤ length (now s) ⌝ }
+    ensures { λ r. ⌜ r ≡ field (now (s .entry)) at 6 ⌝ }
+{
+    let low = read32(s, at);
+    let high = read16(s, at + 4);
+    low as u64 + high as u64 * 4294967296
+}
+
+// The number in the 8 bytes from `at` on.
+pub fn read64(s: &[u8], at: usize) -> u64
+    requires { ⌜ at + 8 ≤ length (now s) ⌝ }
+    ensures { λ r. ⌜ r ≡ field (now (s .entry)) at 8 ⌝ }
+{
+    let low = read32(s, at);
+    let high = read32(s, at + 4);
+    low as u64 + high as u64 * 4294967296
+}
+
+// Writes v into the 2 bytes from `at` on.
+pub fn put16(s: &mut [u8], at: usize, v: u16)
+    requires { ⌜ at + 2 ≤ length (now s) ⌝ }
+    ensures { λ _. ⌜ now (s .exit) ≡ splice (now (s .entry)) at (bytesOf 2 v) ⌝ }
+{
+    s[at] = (v % 256) as u8;
+    let v1 = v / 256;
+    s[at + 1] = (v1 % 256) as u8;
+}
+
+// Writes v into the 4 bytes from `at` on.
+pub fn put32(s: &mut [u8], at: usize, v: u32)
+    requires { ⌜ at + 4 ≤ length (now s) ⌝ }
+    ensures { λ _. ⌜ now (s .exit) ≡ splice (now (s .entry)) at (bytesOf 4 v) ⌝ }
+{
+    put16(s, at, (v % 65536) as u16);
+    put16(s, at + 2, (v / 65536 % 65536) as u16);
+}
+
+// Writes the low 48 bits of v into the 6 bytes from `at` on.
+pub fn put48(s: &mut [u8], at: usize, v: u64)
+    requires { ⌜ at + 6 ≤ length (now s) ⌝ }
+    ensures { λ _. ⌜ now (s .exit) ≡ splice (now (s .entry)) at (bytesOf 6 v) ⌝ }
+{
+    put32(s, at, (v % 4294967296) as u32);
+    put16(s, at + 4, (v / 4294967296 % 65536) as u16);
+}
+
+// Writes v into the 8 bytes from `at` on.
+pub fn put64(s: &mut [u8], at: usize, v: u64)
+    requires { ⌜ at + 8 ≤ length (now s) ⌝ }
+    ensures { λ _. ⌜ now (s .exit) ≡ splice (now (s .entry)) at (bytesOf 8 v) ⌝ }
+{
+    put32(s, at, (v % 4294967296) as u32);
+    put32(s, at + 4, (v / 4294967296 % 4294967296) as u32);
+}
+
+// Copies src over dst from `at` on.
+pub fn copy_at(dst: &mut [u8], at: usize, src: &[u8])
+    requires { ⌜ at + length (now src) ≤ length (now dst) ⌝ }
+    ensures { λ _. ⌜ now (dst .exit) ≡ splice (now (dst .entry)) at (now (src .entry)) ⌝ }
+{
+    for i in 0..src.len() {
+        dst[at + i] = src[i];
+    }
+}
+
+// Clears n bytes of dst from `at` on.
+pub fn clear_at(dst: &mut [u8], at: usize, n: usize)
+    requires { ⌜ at + n ≤ length (now dst) ⌝ }
+    ensures { λ _. ⌜ now (dst .exit) ≡ splice (now (dst .entry)) at (replicate n 0) ⌝ }
+{
+    for i in 0..n {
+        dst[at + i] = 0;
+    }
+}
+
+// Whether every byte is zero.
+pub fn all_zero(s: &[u8]) -> bool
+    ensures { λ r. ⌜ r ≡ zeros (now (s .entry)) ⌝ }
+{
+    for i in 0..s.len() {
+        if s[i] != 0 {
+            return false;
+        }
+    }
+    true
+}
+
+// The sum of the first n units of 1 byte, modulo 2^8.
+pub fn sum8(s: &[u8], n: usize) -> u8
+    requires { ⌜ n ≤ length (now s) ⌝ }
+    ensures { λ r. ⌜ r ≡ checksum 1 n (now (s .entry)) ⌝ }
+{
+    let mut acc: u8 = 0;
+    for k in 0..n {
+        acc = std::num::wrapping_add_u8(acc, s[k]);
+    }
+    acc
+}
+
+// The sum of the first n units of 2 bytes, modulo 2^16.
+pub fn sum16(s: &[u8], n: usize) -> u16
+    requires { ⌜ 2 * n ≤ length (now s) ⌝ }
+    ensures { λ r. ⌜ r ≡ checksum 2 n (now (s .entry)) ⌝ }
+{
+    let mut acc: u16 = 0;
+    for k in 0..n {
+        acc = std::num::wrapping_add_u16(acc, read16(s, 2 * k));
+    }
+    acc
+}
+
+// The sum of the first n units of 4 bytes, modulo 2^32.
+pub fn sum32(s: &[u8], n: usize) -> u32
+    requires { ⌜ 4 * n ≤ length (now s) ⌝ }
+    ensures { λ r. ⌜ r ≡ checksum 4 n (now (s .entry)) ⌝ }
+{
+    let mut acc: u32 = 0;
+    for k in 0..n {
+        acc = std::num::wrapping_add_u32(acc, read32(s, 4 * k));
+    }
+    acc
+}
+
+// The sum of the eleven words of a primary header ahead of its own (11.2.1.1).
+pub fn header_sum(header: &[u8]) -> u16
+    requires { ⌜ 24 ≤ length (now header) ⌝ }
+    ensures { λ r. ⌜ r ≡ headerSum (now (header .entry)) ⌝ }
+{
+    sum16(header, 11)
+}
+
+// The sum of the five words of a secondary header before its own.
+pub fn secondary_sum(header: &[u8]) -> u16
+    requires { ⌜ 12 ≤ length (now header) ⌝ }
+    ensures { λ r. ⌜ r ≡ secondarySum (now (header .entry)) ⌝ }
+{
+    sum16(header, 5)
+}
+
+// The data sum of body and filler by bits 1-0 of the flags: none (0), 8, 16 or 32 bits.
+pub fn data_sum(s: &[u8], code: u8) -> u32
+    requires { ⌜ code < 4 ⌝ }
+    ensures { λ r. ⌜ r ≡ dataSum code (now (s .entry)) ⌝ }
+{
+    if code == 1 {
+        return sum8(s, s.len()) as u32;
+    }
+    if code == 2 {
+        return sum16(s, s.len() / 2) as u32;
+    }
+    if code == 3 {
+        return sum32(s, s.len() / 4);
+    }
+    0
+}
