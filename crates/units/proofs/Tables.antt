@@ -1,8 +1,8 @@
 -- Laws of tables of refusals and of choices: a test of the code, b, is the row's test, t. Assumes nothing.
 use mathlib.Core.Path.{_≡_, refl, sym, ap, _∙_, subst}
 use mathlib.Core.List.{List, [], _∷_, _++_}
-use mathlib.Core.Bool.{Bool, true, false, not, _&&_, _||_}
-use Prim.Native.Nat.{ℕ, _<_}
+use mathlib.Core.Bool.{Bool, true, false, _&&_, _||_}
+use Prim.Native.Nat.{ℕ}
 use lib.Dec.{T, ltb}
 use Rattle.units.specs.Table.{pick, Row, _⇒_, first}
 
@@ -31,6 +31,11 @@ pub picked : {A : Type 0} (t : Bool) (x y z : A) → (y ≡ z → ⊥) → pick 
 picked true x y z other e = (refl, e)
 picked false x y z other e = absurd (other e)
 
+-- and one that the first choice does not give comes from the second
+pub passed : {A : Type 0} (t : Bool) (x y z : A) → (x ≡ z → ⊥) → pick t x y ≡ z → (t ≡ false) × (y ≡ z)
+passed true x y z other e = absurd (other e)
+passed false x y z other e = (refl, e)
+
 -- ---- Bools
 
 pub or-false : (a b : Bool) → (a || b) ≡ false → (a ≡ false) × (b ≡ false)
@@ -40,7 +45,3 @@ or-false false b e = (refl, e)
 pub and-true : (a b : Bool) → (a && b) ≡ true → (a ≡ true) × (b ≡ true)
 and-true true b e = (refl, e)
 and-true false b e = absurd (subst T (sym e) tt)
-
-pub not-is-false : (a : Bool) → not a ≡ false → a ≡ true
-not-is-false true e = refl
-not-is-false false e = absurd (subst T e tt)

@@ -1,0 +1,131 @@
+-- Laws for the loops over a body that is known to have n messages, and for lists that are filled from the front. Assumes nothing.
+use mathlib.Core.Path.{_≡_, refl, sym, ap, _∙_}
+use mathlib.Core.List.{List, [], _∷_, _++_, append-assoc}
+use mathlib.Core.Bool.{Bool, true, false}
+use Prim.Native.Nat.{ℕ, zero, suc, _+_, _-_, _%_, _^_, _≤_, _<_, min}
+use native.Mathlib.Omega.{arith}
+use native.Mathlib.Numerals.{add-one}
+use lib.ListN.{length, drop, getD, set, length-append, length-drop}
+use lib.Seq.{drop-cons, set-at}
+use lib.Dec.{leb, eqb}
+use borrow.Author.Tests.{eqb-true, le-leb, lt-leb}
+use Rattle.units.specs.Table.{pick}
+use Rattle.body.specs.Walk.{fault, openBody, headAt, blockAt, spot, stopAt, ending, walkFrom, walk}
+use Rattle.body.specs.Answers.{messageOf, messageOpened, messageIn, tab, filled, listCounted}
+use Rattle.body.specs.declared.Refusal.{Refusal}
+use Rattle.body.specs.declared.Shape.{Shape}
+use Rattle.body.specs.declared.TimeRule.{TimeRule}
+use Rattle.body.specs.declared.Opened.{Opened}
+use Rattle.body.specs.declared.Opened.the-variants.{Shaped}
+use Rattle.body.specs.declared.Message.{Message}
+use Rattle.body.specs.declared.Block.{Block}
+use Rattle.body.specs.declared.Block.the-variants.{Found, Broken}
+use Rattle.body.specs.declared.Checked.{Checked}
+use Rattle.body.specs.declared.Checked.the-variants.{Counted, Faulty}
+use Rattle.body.specs.declared.Listed.{Listed}
+use Rattle.body.specs.declared.Listed.the-variants.{Count, Unlisted, NoRoom}
+use Rattle.body.proofs.Walking.{stands, Walking, walking-first, walking-next, walk-stop, walk-broken, walk-found}
+
+-- ---- a body that has n messages
+
+-- the walk stands at `at` after k blocks of a body that has n
+abbrev pub Reading : Shape → List ℕ → ℕ → ℕ → ℕ → Type 0
+Reading sh bs n k at = Walking sh bs k at × (walkFrom sh bs (length bs + 1 - k) k ≡ Counted n)
+
+pub reading-first : (sh : Shape) (bs : List ℕ) (n : ℕ) → 4 ≤ length bs → walk sh bs ≡ Counted n → Reading sh bs n 0 4
+unfolding walk
+reading-first sh bs n h e = let z : length bs + 1 - 0 ≡ length bs + 1 = omega arith in (walking-first sh bs h, rw z e)
+
+-- an ending that counts n comes after n blocks, at the body's end
+pub ending-counted : (len k at n : ℕ) → ending len k at ≡ Counted n → (k ≡ n) × (at ≡ len)
+unfolding ending
+ending-counted len k at n e = go (eqb at len) refl e
+  where
+    go : (b : Bool) → eqb at len ≡ b → pick b (Counted k) (Faulty (fault at)) ≡ Counted n → (k ≡ n) × (at ≡ len)
+    go true t e = (cc, eqb-true at len t)
+    go false t e = let z : _≡_ {A = ℕ} 0 1 = cc in absurd (omega arith)
+
+module _ (sh : Shape) (bs : List ℕ) (n k at : ℕ) (now : Reading sh bs n k at) where
+  -- where the walk stops, all n are read and the body ends
+  pub reading-end : stopAt sh (length bs) k at ≡ true → (k ≡ n) × (at ≡ length bs)
+  reading-end e = ending-counted (length bs) k at n (sym (walk-stop sh bs (length bs + 1 - k) k at (now .0 .0) (omega arith) e) ∙ now .1)
+
+  -- where it goes on, the block is whole
+  pub reading-block : (r : Refusal) → stopAt sh (length bs) k at ≡ false → blockAt sh bs at ≡ Broken r → ⊥
+  reading-block r s e =
+      let z : _≡_ {A = ℕ} 0 1 = cc (walk-broken sh bs (length bs + 1 - k) k at (now .0 .0) (omega arith) r s e, now .1) in
+      omega arith
+
+  pub reading-step : (m : Message) (next : ℕ) → stopAt sh (length bs) k at ≡ false → blockAt sh bs at ≡ Found m next → Reading sh bs n (k + 1) next
+  reading-step m next s e =
+      let f : length bs + 1 - k - 1 ≡ length bs + 1 - (k + 1) = omega arith in
+      (walking-next sh bs k at m next (now .0) e, rw f at (sym (walk-found sh bs _ k at (now .0 .0) (omega arith) m next s e) ∙ now .1))
+
+  -- while messages are left the walk goes on
+  pub reading-on : k < n → stopAt sh (length bs) k at ≡ false
+  reading-on more = go (stopAt sh (length bs) k at) refl
+    where
+      go : (b : Bool) → stopAt sh (length bs) k at ≡ b → stopAt sh (length bs) k at ≡ false
+      go false e = e
+      go true e = absurd (omega (arith, reading-end e .0))
+
+  pub reading-whole : k < n → (r : Refusal) → blockAt sh bs at ≡ Broken r → ⊥
+  reading-whole more r e = reading-block r (reading-on more) e
+
+  pub reading-next : k < n → (m : Message) (next : ℕ) → blockAt sh bs at ≡ Found m next → Reading sh bs n (k + 1) next
+  reading-next more m next e = reading-step m next (reading-on more) e
+
+-- the block where the walk stands is the k-th message
+pub walking-message : (sh : Shape) (bs : List ℕ) (k at : ℕ) (m : Message) (next : ℕ) → Walking sh bs k at → blockAt sh bs at ≡ Found m next
+    → m ≡ messageOf sh bs k
+unfolding messageOf
+walking-message sh bs k at m next w e = rw (← w .0, e)
+
+-- its bytes lie within the body
+pub found-bytes : (sh : Shape) (bs : List ℕ) (at : ℕ) (m : Message) (next : ℕ) → blockAt sh bs at ≡ Found m next
+    → (m .start + m .length ≤ length bs) × (0 < m .length) × (m .length < 2 ^ 16)
+unfolding headAt
+found-bytes sh bs at m next e =
+    let s = stands sh bs at m next e in
+    (omega (arith, s .next-is, s .fits), s .some, omega (arith, ap (λ (x : Message). x .length) (s .says)))
+
+-- the messages of a body whose shape is known
+pub message-shaped : (kind : ℕ) (rule : TimeRule) (bs : List ℕ) (sh : Shape) (k : ℕ) → openBody kind rule bs ≡ Shaped sh → messageIn kind rule bs k ≡ messageOf sh bs k
+unfolding messageIn
+message-shaped kind rule bs sh k e = ap (λ (o : Opened). messageOpened o bs k) e
+
+pub messages-shaped : (kind : ℕ) (rule : TimeRule) (bs : List ℕ) (sh : Shape) → openBody kind rule bs ≡ Shaped sh → messageIn kind rule bs ≡ messageOf sh bs
+messages-shaped kind rule bs sh e = λ i k. message-shaped kind rule bs sh k e i
+
+-- ---- lists filled from the front
+
+pub length-tab : {A : Type 0} (n : ℕ) (f : ℕ → A) → length (tab n f) ≡ n
+unfolding tab
+length-tab zero f = refl
+length-tab (suc n) f = simp (length-append, length-tab n f) (omega arith)
+
+pub tab-ext : {A : Type 0} (n : ℕ) (f g : ℕ → A) → ((k : ℕ) → k < n → f k ≡ g k) → tab n f ≡ tab n g
+unfolding tab
+tab-ext zero f g h = refl
+tab-ext (suc n) f g h = simp (tab-ext n f g (λ k l. h k (omega arith)), h n (omega arith))
+
+-- the next entry
+pub fill-next : (k : ℕ) (f : ℕ → ℕ) (old now : List ℕ) (v : ℕ) → k < length old → now ≡ filled k f old → v ≡ f k
+    → set now k v ≡ filled (k + 1) f old
+unfolding filled tab
+fill-next k f old now v h e is =
+    rw (e, add-one, drop-cons old k 0 h, set-at (tab k f) (getD old k 0) (drop (suc k) old) v k (length-tab k f), append-assoc, is)
+
+-- which answer a lister gives
+module _ (r q : ℕ) (w : Checked) where
+  pub list-short : (n : ℕ) → w ≡ Counted n → min r q < n → NoRoom n ≡ listCounted r q w
+  unfolding listCounted
+  list-short n e h = simp (e, lt-leb n (min r q) h)
+
+  pub list-room : (n : ℕ) → w ≡ Counted n → n ≤ min r q → Count n ≡ listCounted r q w
+  unfolding listCounted
+  list-room n e h = simp (e, le-leb n (min r q) h)
+
+  pub list-faulty : (f : Refusal) → w ≡ Faulty f → Unlisted f ≡ listCounted r q w
+  unfolding listCounted
+  list-faulty f e = simp e

@@ -1,0 +1,429 @@
+-- A body is accepted exactly if it is its channel word and the blocks that are reported. Assumes nothing.
+use mathlib.Core.Path.{_≡_, refl, sym, ap, _∙_, subst}
+use mathlib.Core.List.{List, [], _∷_, _++_, append-assoc, append-nil}
+use mathlib.Core.Bool.{Bool, true, false, not, _&&_}
+use mathlib.Core.Logic.{_↔_}
+use Prim.Native.Nat.{ℕ, zero, suc, _+_, _%_, _/_, _^_, _≤_, _<_}
+use native.Mathlib.Omega.{arith}
+use native.Mathlib.Numerals.{add-one}
+use lib.ListN.{length, take, replicate, length-append, length-replicate}
+use lib.Seq.{append-snoc, take-add, take-length, length-take-le}
+use lib.Dec.{ltb, leb, eqb}
+use borrow.Author.Tests.{ltb-true, leb-true, leb-false, eqb-true, le-leb, lt-leb, lt-ltb}
+use Rattle.units.specs.Units.{Bytes, part, field, num, bytesOf, zeros}
+use Rattle.units.specs.Table.{pick}
+use Rattle.units.proofs.Numbers.{length-bytesOf, num-bytesOf, bytesOf-num}
+use Rattle.units.proofs.Parts.{length-part, bytes-part, part-at, field-lt}
+use Rattle.units.proofs.Tables.{picked, passed, and-true}
+use Rattle.body.specs.Walk.{opens, counterOk, messageShape, uartShape, openBody, stampLength, headAt, blockAt, spot, stopAt, walk}
+use Rattle.body.specs.Answers.{checkOpened, checkBody, messageOf, messageIn, tab}
+use Rattle.body.specs.Blocks.{Entry, blockBytes, Fits, AllFit, blocksBytes, entryIn, entriesIn, BodyOf}
+use Rattle.body.specs.declared.TimeRule.{TimeRule}
+use Rattle.body.specs.declared.Shape.{Shape}
+use Rattle.body.specs.declared.Opened.{Opened}
+use Rattle.body.specs.declared.Opened.the-variants.{Carried, Shaped, Wrong}
+use Rattle.body.specs.declared.Message.{Message}
+use Rattle.body.specs.declared.Block.{Block}
+use Rattle.body.specs.declared.Block.the-variants.{Found, Broken}
+use Rattle.body.specs.declared.Checked.the-variants.{Counted}
+use Rattle.body.proofs.Walking.{Stands, stands, stands-found, found-next, Counting, counting-first, counting-stop, counting-next, ending-exact, open-long}
+use Rattle.body.proofs.Reading.{Reading, reading-first, reading-end, reading-block, reading-step, length-tab, tab-ext}
+
+-- ---- zeros
+
+pub zeros-replicate : (n : ℕ) → zeros (replicate n 0) ≡ true
+unfolding zeros
+zeros-replicate zero = refl
+zeros-replicate (suc n) = zeros-replicate n
+
+pub zeros-are : (xs : List ℕ) → zeros xs ≡ true → xs ≡ replicate (length xs) 0
+unfolding zeros
+zeros-are [] t = refl
+zeros-are (x ∷ xs) t =
+    let p = and-true (eqb x 0) (zeros xs) t in
+    let e : x ≡ 0 = eqb-true x 0 (p .0) in
+    rw (e, ← zeros-are xs (p .1))
+
+-- ---- blocks and their bytes
+
+-- the k-th block of a body of this shape
+abbrev pub entryOf : Shape → List ℕ → ℕ → Entry
+entryOf sh bs k =
+    record { time = messageOf sh bs k .time; id = messageOf sh bs k .id; bytes = part bs (messageOf sh bs k .start) (messageOf sh bs k .length) }
+
+-- what a message reports, taken out of the body
+abbrev pub entryAt : List ℕ → Message → Entry
+entryAt bs m = record { time = m .time; id = m .id; bytes = part bs (m .start) (m .length) }
+
+pub length-blockBytes : (stamped : Bool) (e : Entry)
+    → length (blockBytes stamped e) ≡ stampLength stamped + 4 + length (e .bytes) + length (e .bytes) % 2
+unfolding blockBytes
+length-blockBytes stamped e = simp (length-append, length-bytesOf, length-replicate)
+
+pub blocks-snoc : (stamped : Bool) (es : List Entry) (e : Entry) → blocksBytes stamped (es ++ (e ∷ [])) ≡ blocksBytes stamped es ++ blockBytes stamped e
+unfolding blocksBytes
+blocks-snoc stamped [] e = append-nil (blockBytes stamped e)
+blocks-snoc stamped (x ∷ es) e = rw (blocks-snoc stamped es e, append-assoc)
+
+pub fit-snoc : (stamped : Bool) (rule : TimeRule) (es : List Entry) (e : Entry) → AllFit stamped rule es → Fits stamped rule e
+    → AllFit stamped rule (es ++ (e ∷ []))
+fit-snoc stamped rule [] e h f = (f, tt)
+fit-snoc stamped rule (x ∷ es) e h f = (h .0, fit-snoc stamped rule es e (h .1) f)
+
+-- ---- from blocks to a body that is accepted
+
+-- the message that a block at `at` reads as
+abbrev pub messageOn : Bool → ℕ → Entry → Message
+messageOn stamped at e = record { time = e .time; id = e .id; start = at + stampLength stamped + 4; length = length (e .bytes) }
+
+module _ (sh : Shape) (bs front rest : List ℕ) (e : Entry) (is : bs ≡ front ++ (blockBytes (sh .stamped) e ++ rest)) where
+  abbrev stampBytes : List ℕ
+  stampBytes = bytesOf (stampLength (sh .stamped)) (e .time)
+
+  abbrev wordBytes : List ℕ
+  wordBytes = bytesOf 4 (e .id)
+
+  abbrev padBytes : List ℕ
+  padBytes = replicate (length (e .bytes) % 2) 0
+
+  split : bs ≡ front ++ (stampBytes ++ (wordBytes ++ (e .bytes ++ (padBytes ++ rest))))
+  unfolding blockBytes
+  split = is ∙ simp append-assoc
+
+  bytes-there : part bs (length front + stampLength (sh .stamped) + 4) (length (e .bytes)) ≡ e .bytes
+  bytes-there =
+      part-at bs (front ++ stampBytes ++ wordBytes) (e .bytes) (padBytes ++ rest) (length front + stampLength (sh .stamped) + 4) (length (e .bytes))
+      (split ∙ simp append-assoc) (simp (length-append, length-bytesOf)) refl
+
+  stands-there : Fits (sh .stamped) (sh .rule) e
+      → Stands sh bs (length front) (messageOn (sh .stamped) (length front) e) (length (front ++ blockBytes (sh .stamped) e))
+  unfolding headAt
+  stands-there ok =
+      let n = length (e .bytes) in
+      let st = stampLength (sh .stamped) in
+      let l : length (front ++ blockBytes (sh .stamped) e) ≡ length front + st + 4 + n + n % 2 =
+      omega (arith, length-append front (blockBytes (sh .stamped) e), length-blockBytes (sh .stamped) e) in
+      let lb : length bs ≡ length front + st + 4 + n + n % 2 + length rest =
+      omega (arith, simp length-append at (ap length is), length-blockBytes (sh .stamped) e) in
+      let pS : part bs (length front) st ≡ stampBytes =
+      part-at bs front stampBytes (wordBytes ++ (e .bytes ++ (padBytes ++ rest))) (length front) st split refl (length-bytesOf st (e .time)) in
+      let pI : part bs (length front + st) 4 ≡ wordBytes =
+      part-at bs (front ++ stampBytes) wordBytes (e .bytes ++ (padBytes ++ rest)) (length front + st) 4
+      (split ∙ simp append-assoc) (simp (length-append, length-bytesOf)) (length-bytesOf 4 (e .id)) in
+      let pZ : part bs (length front + st + 4 + n) (n % 2) ≡ padBytes =
+      part-at bs (front ++ stampBytes ++ wordBytes ++ e .bytes) padBytes rest (length front + st + 4 + n) (n % 2) (split ∙ simp append-assoc)
+      (simp (length-append, length-bytesOf)) (length-replicate (n % 2) 0) in
+      let t : field bs (length front) st ≡ e .time = ap num pS ∙ num-bytesOf st (e .time) (ok .time-fits) in
+      let i : field bs (length front + st) 4 ≡ e .id = ap num pI ∙ num-bytesOf 4 (e .id) (omega (arith, ok .word)) in
+      let s : n ≡ field bs (length front + st) 4 % 2 ^ 16 = rw i (ok .size) in
+      record {
+        head = omega arith;
+        says = λ j. record { time = sym t j; id = sym i j; start = length front + st + 4; length = s j };
+        next-is = l;
+        fits = omega arith;
+        time-ok = ok .time-ok;
+        some = ok .some;
+        pad = rw pZ (zeros-replicate (n % 2));
+      }
+
+entry-there : (sh : Shape) (bs : List ℕ) (k at : ℕ) (m : Message) (next : ℕ) → at ≡ spot sh bs k → blockAt sh bs at ≡ Found m next
+    → entryOf sh bs k ≡ entryAt bs m
+unfolding messageOf
+entry-there sh bs k at m next is f = rw (← is, f)
+
+-- n blocks up to the end of the body, where the walk stops and not before, are counted and reported
+module _ (sh : Shape) (bs : List ℕ) (n : ℕ) (stop : stopAt sh (length bs) n (length bs) ≡ true)
+    (on : (k at : ℕ) → k < n → at < length bs → stopAt sh (length bs) k at ≡ false) where
+  walk-blocks : (es : List Entry) (front : List ℕ) (k : ℕ) → k + length es ≡ n → bs ≡ front ++ blocksBytes (sh .stamped) es
+      → AllFit (sh .stamped) (sh .rule) es → Counting sh bs k (length front) → (walk sh bs ≡ Counted n) × (tab n (entryOf sh bs) ≡ tab k (entryOf sh bs) ++ es)
+  unfolding blocksBytes tab
+  walk-blocks [] front k ends is fit now =
+      let e : k ≡ n = omega arith in
+      let l : length front ≡ length bs = omega (arith, ap length is, length-append front []) in
+      let there = subst (λ (at : ℕ). Counting sh bs k at) l now in
+      let s : stopAt sh (length bs) k (length bs) ≡ true = rw e stop in
+      (counting-stop sh bs k (length bs) there s ∙ ending-exact (length bs) k (length bs) refl ∙ ap Counted e, rw (append-nil, e))
+  walk-blocks (e ∷ es) front k ends is fit now =
+      let block = blockBytes (sh .stamped) e in
+      let m = messageOn (sh .stamped) (length front) e in
+      let next = length (front ++ block) in
+      let f = stands-found sh bs (length front) m next (stands-there sh bs front (blocksBytes (sh .stamped) es) e is (fit .0)) in
+      let b = found-next sh bs (length front) m next f in
+      let then = counting-next sh bs k (length front) now m next (on k (length front) (omega arith) (omega (arith, b .0, b .1))) f in
+      let rest = walk-blocks es (front ++ block) (k + 1) (omega arith) (is ∙ simp append-assoc) (fit .1) then in
+      let here : entryOf sh bs k ≡ e =
+      rw (entry-there sh bs k (length front) m next (now .0 .0) f, bytes-there sh bs front (blocksBytes (sh .stamped) es) e is) in
+      (rest .0, rest .1 ∙ rw (add-one, tab, here) (append-snoc (tab k (entryOf sh bs)) e es))
+
+-- the walk stops behind the last of n blocks, and not before
+module _ (sh : Shape) (bs : List ℕ) (n : ℕ) where
+  stop-last : (sh .counted ≡ true → n ≡ sh .count) → 0 < n → stopAt sh (length bs) n (length bs) ≡ true
+  unfolding stopAt
+  stop-last counted pos = go (sh .counted) refl
+    where
+      go : (b : Bool) → sh .counted ≡ b → pick b (leb (sh .count) n) (ltb 0 n && leb (length bs) (length bs)) ≡ true
+      go true c = le-leb (sh .count) n (omega (arith, counted c))
+      go false c = rw (lt-ltb 0 n pos, le-leb (length bs) (length bs) (omega arith))
+
+  on-before : (sh .counted ≡ true → n ≡ sh .count) → (k at : ℕ) → k < n → at < length bs → stopAt sh (length bs) k at ≡ false
+  unfolding stopAt
+  on-before counted k at h l = go (sh .counted) refl
+    where
+      never : (t : Bool) → (t && false) ≡ false
+      never true = refl
+      never false = refl
+
+      go : (b : Bool) → sh .counted ≡ b → pick b (leb (sh .count) k) (ltb 0 k && leb (length bs) at) ≡ false
+      go true c = lt-leb (sh .count) k (omega (arith, counted c))
+      go false c = rw (lt-leb (length bs) at l) (never (ltb 0 k))
+
+-- ---- from a body that is accepted to blocks
+
+pub bytesOf-field : (bs : List ℕ) (at n : ℕ) → Bytes bs → at + n ≤ length bs → bytesOf n (field bs at n) ≡ part bs at n
+bytesOf-field bs at n h fits =
+    subst (λ (l : ℕ). bytesOf l (field bs at n) ≡ part bs at n) (length-part bs at n fits) (bytesOf-num (part bs at n) (bytes-part bs at n h))
+
+module _ (sh : Shape) (bs : List ℕ) (at : ℕ) (m : Message) (next : ℕ) (raw : Bytes bs) (found : blockAt sh bs at ≡ Found m next) where
+  -- a block that is found is the bytes of what it reports
+  found-is : take next bs ≡ take at bs ++ blockBytes (sh .stamped) (entryAt bs m)
+  unfolding headAt blockBytes
+  found-is =
+      let s = stands sh bs at m next found in
+      let st = stampLength (sh .stamped) in
+      let n = m .length in
+      let t : m .time ≡ field bs at st = ap (λ (x : Message). x .time) (s .says) in
+      let i : m .id ≡ field bs (at + st) 4 = ap (λ (x : Message). x .id) (s .says) in
+      let b : m .start ≡ at + st + 4 = ap (λ (x : Message). x .start) (s .says) in
+      let e : next ≡ at + st + 4 + n + n % 2 = omega (arith, s .next-is) in
+      let fits : next ≤ length bs = s .fits in
+      let pS : bytesOf st (m .time) ≡ part bs at st = rw t (bytesOf-field bs at st raw (omega arith)) in
+      let pI : bytesOf 4 (m .id) ≡ part bs (at + st) 4 = rw i (bytesOf-field bs (at + st) 4 raw (omega arith)) in
+      let lB : length (part bs (m .start) n) ≡ n = length-part bs (m .start) n (omega arith) in
+      let lZ : length (part bs (m .start + n) (n % 2)) ≡ n % 2 = length-part bs (m .start + n) (n % 2) (omega arith) in
+      let pZ : part bs (m .start + n) (n % 2) ≡ replicate (n % 2) 0 = rw lZ at (zeros-are (part bs (m .start + n) (n % 2)) (s .pad)) in
+      let whole : take (at + st + 4 + n + n % 2) bs
+      ≡ take at bs ++ part bs at st ++ part bs (at + st) 4 ++ part bs (at + st + 4) n ++ part bs (at + st + 4 + n) (n % 2) =
+      take-add (at + st + 4 + n) (n % 2) bs
+      ∙ ap (λ (l : List ℕ). l ++ part bs (at + st + 4 + n) (n % 2))
+      (take-add (at + st + 4) n bs
+      ∙ ap (λ (l : List ℕ). l ++ part bs (at + st + 4) n)
+      (take-add (at + st) 4 bs ∙ ap (λ (l : List ℕ). l ++ part bs (at + st) 4) (take-add at st bs))) in
+      rw (e, whole, lB, pS, pI, ← pZ, b) (simp append-assoc)
+
+  found-fits : Fits (sh .stamped) (sh .rule) (entryAt bs m)
+  unfolding headAt
+  found-fits =
+      let s = stands sh bs at m next found in
+      let st = stampLength (sh .stamped) in
+      let t : m .time ≡ field bs at st = ap (λ (x : Message). x .time) (s .says) in
+      let i : m .id ≡ field bs (at + st) 4 = ap (λ (x : Message). x .id) (s .says) in
+      let n : m .length ≡ field bs (at + st) 4 % 2 ^ 16 = ap (λ (x : Message). x .length) (s .says) in
+      let lB : length (part bs (m .start) (m .length)) ≡ m .length = length-part bs (m .start) (m .length) (omega (arith, s .next-is, s .fits)) in
+      record {
+        some = omega (arith, s .some);
+        size = lB ∙ n ∙ rw i refl;
+        word = rw i (omega (arith, field-lt bs (at + st) 4 raw (s .head)));
+        time-fits = rw t (field-lt bs at st raw (omega (arith, s .head)));
+        time-ok = s .time-ok;
+      }
+
+-- the walk has come to `at` by k blocks, and no further than it may
+pub record Come (sh : Shape) (bs : List ℕ) (k at : ℕ) : Type 0 where
+  pub is : take at bs ≡ take 4 bs ++ blocksBytes (sh .stamped) (tab k (entryOf sh bs))
+  pub fit : AllFit (sh .stamped) (sh .rule) (tab k (entryOf sh bs))
+  pub within : sh .counted ≡ true → k ≤ sh .count
+
+come-first : (sh : Shape) (bs : List ℕ) → Come sh bs 0 4
+unfolding blocksBytes tab
+come-first sh bs = record { is = sym (append-nil (take 4 bs)); fit = tt; within = λ c. omega arith }
+
+come-next : (sh : Shape) (bs : List ℕ) (k at : ℕ) (m : Message) (next : ℕ) → Bytes bs → at ≡ spot sh bs k → stopAt sh (length bs) k at ≡ false
+    → blockAt sh bs at ≡ Found m next → Come sh bs k at → Come sh bs (k + 1) next
+unfolding tab stopAt
+come-next sh bs k at m next raw there on found come =
+    let e : entryOf sh bs k ≡ entryAt bs m = entry-there sh bs k at m next there found in
+    record {
+      is =
+          rw (add-one, tab, blocks-snoc (sh .stamped) (tab k (entryOf sh bs)) (entryOf sh bs k), e)
+          (found-is sh bs at m next raw found ∙ ap (λ (l : List ℕ). l ++ blockBytes (sh .stamped) (entryAt bs m)) (come .is)
+          ∙ append-assoc (take 4 bs) (blocksBytes (sh .stamped) (tab k (entryOf sh bs))) (blockBytes (sh .stamped) (entryAt bs m)));
+      fit =
+          rw (add-one, tab, e) (fit-snoc (sh .stamped) (sh .rule) (tab k (entryOf sh bs)) (entryAt bs m) (come .fit) (found-fits sh bs at m next raw found));
+      within = λ c. omega (arith, leb-false (sh .count) k (rw c at on));
+    }
+
+-- what is left to be said where the walk stops
+stop-says : (sh : Shape) (len k at : ℕ) → stopAt sh len k at ≡ true → (sh .counted ≡ true → (0 < sh .count) × (k ≤ sh .count))
+    → (sh .counted ≡ true → k ≡ sh .count) × (0 < k)
+unfolding stopAt
+stop-says sh len k at s limits = go (sh .counted) refl s
+  where
+    go : (b : Bool) → sh .counted ≡ b → pick b (leb (sh .count) k) (ltb 0 k && leb len at) ≡ true → (sh .counted ≡ true → k ≡ sh .count) × (0 < k)
+    go true c s =
+        let l : sh .count ≤ k = leb-true (sh .count) k s in
+        let h = limits c in
+        ((λ q. omega (arith, h .1)), omega (arith, h .0))
+    go false c s =
+        ((λ q. let z : _≡_ {A = ℕ} 0 1 = cc in absurd (omega arith)), ltb-true 0 k (and-true (ltb 0 k) (leb len at) s .0))
+
+-- a body of this shape that holds exactly these blocks
+pub record Holds (sh : Shape) (bs : List ℕ) (es : List Entry) : Type 0 where
+  pub counted : sh .counted ≡ true → length es ≡ sh .count
+  pub some : 0 < length es
+  pub is : bs ≡ take 4 bs ++ blocksBytes (sh .stamped) es
+  pub fit : AllFit (sh .stamped) (sh .rule) es
+
+module _ (sh : Shape) (bs : List ℕ) (n : ℕ) (raw : Bytes bs) (least : sh .counted ≡ true → 0 < sh .count) where
+  holds-last : (k at : ℕ) → Reading sh bs n k at → Come sh bs k at → stopAt sh (length bs) k at ≡ true → Holds sh bs (tab n (entryOf sh bs))
+  holds-last k at now come s =
+      let p = reading-end sh bs n k at now s in
+      let e : k ≡ n = p .0 in
+      let says = stop-says sh (length bs) k at s (λ c. (least c, come .within c)) in
+      let l : length (tab n (entryOf sh bs)) ≡ n = length-tab n (entryOf sh bs) in
+      record {
+        counted = λ c. l ∙ sym e ∙ says .0 c;
+        some = omega (arith, says .1);
+        is = sym (ap (λ (j : ℕ). take j bs) (p .1) ∙ take-length bs) ∙ rw (← e) (come .is);
+        fit = rw (← e) (come .fit);
+      }
+
+  holds-from : (fuel k at : ℕ) → length bs < fuel + at → Reading sh bs n k at → Come sh bs k at → Holds sh bs (tab n (entryOf sh bs))
+  holds-from zero k at short now come = absurd (omega arith)
+  holds-from (suc fuel) k at short now come =
+      go (stopAt sh (length bs) k at) refl (blockAt sh bs at) refl
+      (λ next h r c. holds-from fuel (k + 1) next (omega arith) r c)
+    where
+      go : (b : Bool) → stopAt sh (length bs) k at ≡ b → (x : Block) → blockAt sh bs at ≡ x
+          → ((next : ℕ) → at < next → Reading sh bs n (k + 1) next → Come sh bs (k + 1) next → Holds sh bs (tab n (entryOf sh bs)))
+          → Holds sh bs (tab n (entryOf sh bs))
+      go true s x f rest = holds-last k at now come s
+      go false s (Broken r) f rest = absurd (reading-block sh bs n k at now r s f)
+      go false s (Found m next) f rest =
+          rest next (found-next sh bs at m next f .0) (reading-step sh bs n k at now m next s f) (come-next sh bs k at m next raw (now .0 .0) s f come)
+
+-- ---- the channel word
+
+-- what is known of the shape that a body opens to
+pub record Known (rule : TimeRule) (sh : Shape) : Type 0 where
+  pub rule-is : sh .rule ≡ rule
+  pub least : sh .counted ≡ true → 0 < sh .count
+
+known-message : (rule : TimeRule) (word : ℕ) (sh : Shape) → messageShape rule word ≡ Shaped sh → Known rule sh
+unfolding messageShape
+known-message rule word sh e =
+    let as-is : Shape = record { stamped = true; counted = true; count = pick (ltb word (2 ^ 16)) word 1; rule = rule } in
+    let p =
+    picked (ltb word (2 ^ 18) && counterOk (word / 2 ^ 16) (word % 2 ^ 16)) (Shaped as-is) Wrong (Shaped sh)
+    (λ q. let z : _≡_ {A = ℕ} 0 1 = cc in omega arith) e in
+    let is : as-is ≡ sh = cc (p .1) in
+    record { rule-is = rw (← is) refl; least = λ c. rw (← is) (above word (p .0)) }
+  where
+    either : (t : Bool) (w : ℕ) → 0 < pick t (suc w) 1
+    either true w = omega arith
+    either false w = omega arith
+
+    above : (w : ℕ) → (ltb w (2 ^ 18) && counterOk (w / 2 ^ 16) (w % 2 ^ 16)) ≡ true → 0 < pick (ltb w (2 ^ 16)) w 1
+    above zero t = let z : _≡_ {A = ℕ} 0 1 = cc in absurd (omega arith)
+    above (suc w) t = either (ltb (suc w) (2 ^ 16)) w
+
+known-uart : (rule : TimeRule) (word : ℕ) (sh : Shape) → uartShape rule word ≡ Shaped sh → Known rule sh
+unfolding uartShape
+known-uart rule word sh e =
+    let as-is : Shape = record { stamped = leb (2 ^ 31) word; counted = false; count = 0; rule = rule } in
+    let p = picked (eqb (word % 2 ^ 31) 0) (Shaped as-is) Wrong (Shaped sh) (λ q. let z : _≡_ {A = ℕ} 0 1 = cc in omega arith) e in
+    let is : as-is ≡ sh = cc (p .1) in
+    record { rule-is = rw (← is) refl; least = λ c. let d : sh .counted ≡ false = rw (← is) refl in let z : _≡_ {A = ℕ} 0 1 = cc in absurd (omega arith) }
+
+pub known : (kind : ℕ) (rule : TimeRule) (bs : List ℕ) (sh : Shape) → openBody kind rule bs ≡ Shaped sh → Known rule sh
+unfolding openBody
+known kind rule bs sh e =
+    let w = field bs 0 4 in
+    let x₁ : Opened = pick (eqb kind 0x30) (messageShape rule w) (uartShape rule w) in
+    let x₀ : Opened = pick (ltb (length bs) 4) Wrong x₁ in
+    let p = passed (not (opens kind)) Carried x₀ (Shaped sh) (λ q. let z : _≡_ {A = ℕ} 0 1 = cc in omega arith) e in
+    let q = passed (ltb (length bs) 4) Wrong x₁ (Shaped sh) (λ q. let z : _≡_ {A = ℕ} 0 1 = cc in omega arith) (p .1) in
+    go (eqb kind 0x30) w (q .1)
+  where
+    go : (t : Bool) (w : ℕ) → pick t (messageShape rule w) (uartShape rule w) ≡ Shaped sh → Known rule sh
+    go true w e = known-message rule w sh e
+    go false w e = known-uart rule w sh e
+
+-- a type that is opened is not carried
+pub open-not-carried : (kind : ℕ) (rule : TimeRule) (bs : List ℕ) → opens kind ≡ true → openBody kind rule bs ≡ Carried → ⊥
+unfolding openBody messageShape uartShape
+open-not-carried kind rule bs o e =
+    let w = field bs 0 4 in
+    let x : Opened = pick (eqb kind 0x30) (messageShape rule w) (uartShape rule w) in
+    let t : not (opens kind) ≡ false = rw o refl in
+    let q : pick (ltb (length bs) 4) Wrong x ≡ Carried = rw t at e in
+    let p = passed (ltb (length bs) 4) Wrong x Carried (λ q. let z : _≡_ {A = ℕ} 0 1 = cc in omega arith) q in
+    go (eqb kind 0x30) w (p .1)
+  where
+    never : (t : Bool) (sh : Shape) → pick t (Shaped sh) Wrong ≡ Carried → ⊥
+    never true sh e = let z : _≡_ {A = ℕ} 0 1 = cc in omega arith
+    never false sh e = let z : _≡_ {A = ℕ} 0 1 = cc in omega arith
+
+    go : (t : Bool) (w : ℕ) → pick t (messageShape rule w) (uartShape rule w) ≡ Carried → ⊥
+    go true w e =
+        never (ltb w (2 ^ 18) && counterOk (w / 2 ^ 16) (w % 2 ^ 16)) (record { stamped = true; counted = true; count = pick (ltb w (2 ^ 16)) w 1; rule = rule }) e
+    go false w e = never (eqb (w % 2 ^ 31) 0) (record { stamped = leb (2 ^ 31) w; counted = false; count = 0; rule = rule }) e
+
+-- ---- the three theorems
+
+entries-shaped : (kind : ℕ) (rule : TimeRule) (bs : List ℕ) (sh : Shape) (n : ℕ) → openBody kind rule bs ≡ Shaped sh
+    → entriesIn kind rule bs n ≡ tab n (entryOf sh bs)
+unfolding entriesIn entryIn messageIn
+entries-shaped kind rule bs sh n o = tab-ext n (entryIn kind rule bs) (entryOf sh bs) (λ k h. simp o)
+
+check-shaped : (kind : ℕ) (rule : TimeRule) (bs : List ℕ) (sh : Shape) → openBody kind rule bs ≡ Shaped sh → checkBody kind rule bs ≡ walk sh bs
+unfolding checkBody
+check-shaped kind rule bs sh o = simp o
+
+-- a body that is its channel word and these blocks is accepted, and they are what is reported
+pub body-of-blocks : (kind : ℕ) (rule : TimeRule) (bs : List ℕ) (es : List Entry) → BodyOf kind rule bs es
+    → (checkBody kind rule bs ≡ Counted (length es)) × (entriesIn kind rule bs (length es) ≡ es)
+unfolding tab
+body-of-blocks kind rule bs es b =
+    let sh = b .shape in
+    let long : 4 ≤ length bs = open-long kind rule bs sh (b .opened) in
+    let four : length (take 4 bs) ≡ 4 = length-take-le 4 bs long in
+    let fit : AllFit (sh .stamped) (sh .rule) es = rw (known kind rule bs sh (b .opened) .rule-is) (b .fit) in
+    let w =
+    walk-blocks sh bs (length es) (stop-last sh bs (length es) (b .counted) (b .some)) (on-before sh bs (length es) (b .counted))
+    es (take 4 bs) 0 (omega arith) (b .is) fit (rw four (counting-first sh bs long)) in
+    (check-shaped kind rule bs sh (b .opened) ∙ w .0, entries-shaped kind rule bs sh (length es) (b .opened) ∙ w .1)
+
+-- an accepted body is exactly its channel word followed by the blocks of the messages reported: nothing invented, nothing left out
+pub body-is-blocks : (kind : ℕ) (rule : TimeRule) (bs : List ℕ) (n : ℕ) → Bytes bs → opens kind ≡ true → checkBody kind rule bs ≡ Counted n
+    → (length (entriesIn kind rule bs n) ≡ n) × BodyOf kind rule bs (entriesIn kind rule bs n)
+unfolding checkBody
+body-is-blocks kind rule bs n raw o e = go (openBody kind rule bs) refl e
+  where
+    go : (x : Opened) → openBody kind rule bs ≡ x → checkOpened x bs ≡ Counted n
+        → (length (entriesIn kind rule bs n) ≡ n) × BodyOf kind rule bs (entriesIn kind rule bs n)
+    go Carried q e = absurd (open-not-carried kind rule bs o q)
+    go Wrong q e = let z : _≡_ {A = ℕ} 0 1 = cc in absurd (omega arith)
+    go (Shaped sh) q e =
+        let k = known kind rule bs sh q in
+        let h =
+        holds-from sh bs n raw (k .least) (length bs) 0 4 (omega arith) (reading-first sh bs n (open-long kind rule bs sh q) e) (come-first sh bs) in
+        let s = entries-shaped kind rule bs sh n q in (
+          ap length s ∙ length-tab n (entryOf sh bs),
+          rw s
+              (record {
+                shape = sh;
+                opened = q;
+                counted = h .counted;
+                some = h .some;
+                is = h .is;
+                fit = subst (λ (r : TimeRule). AllFit (sh .stamped) r (tab n (entryOf sh bs))) (k .rule-is) (h .fit);
+              }),
+        )
+
+-- both ways
+pub body-exactly : (kind : ℕ) (rule : TimeRule) (bs : List ℕ) (es : List Entry) → Bytes bs → opens kind ≡ true
+    → ((checkBody kind rule bs ≡ Counted (length es)) × (entriesIn kind rule bs (length es) ≡ es)) ↔ BodyOf kind rule bs es
+body-exactly kind rule bs es raw o = (
+  λ h. subst (λ (l : List Entry). BodyOf kind rule bs l) (h .1) (body-is-blocks kind rule bs (length es) raw o (h .0) .1),
+  body-of-blocks kind rule bs es,
+)

@@ -1,0 +1,69 @@
+use mathlib.Core.Bool.{false, not}
+use Rattle.body.specs.Walk.{opens, openBody}
+use mathlib.Core.Path.{_≡_, refl, sym, ap, _∙_}
+use borrow.Author.Tests.{le-leb, lt-leb, lt-ltb, le-ltb, eq-eqb, ne-eqb, not-true, not-false}
+use borrow.Author.Needs.{needs}
+use Rattle.body.proofs.opening.open_body.Statement.{statement}
+use Rattle.body.proofs.opening.open_body.Tie as tie
+use Rattle.body.proofs.opening.open_body.Reads as reads
+use Rattle.body.proofs.opening.open_body.Lts as lts
+use Rattle.body.proofs.opening.message_shape.Reads as message-shape-reads
+use Rattle.body.proofs.opening.opens_kind.Reads as opens-kind-reads
+use Rattle.body.proofs.opening.uart_shape.Reads as uart-shape-reads
+use Rattle.units.proofs.read32.Reads as read32-reads
+
+-- src/opening.rt:59:9
+opens-kind-requires : tie.Need-opens-kind-requires
+opens-kind-requires c κs = search needs
+
+-- src/opening.rt:60:9
+returns : tie.Need-returns
+unfolding openBody
+returns c = simp (sym (c .before .opens-kind .ensures), c .if1 .taken)
+
+-- src/opening.rt:63:9
+returns-2 : tie.Need-returns-2
+unfolding openBody
+returns-2 c = simp (sym (c .before .before .opens-kind .ensures), c .before .if1 .left, lt-ltb _ _ (c .if2 .taken))
+
+-- src/opening.rt:65:9
+read32-requires : tie.Need-read32-requires
+read32-requires c κs = search needs
+
+-- src/opening.rt:67:9
+message-shape-requires : tie.Need-message-shape-requires
+message-shape-requires c κs = search needs
+
+-- src/opening.rt:69:9
+uart-shape-requires : tie.Need-uart-shape-requires
+uart-shape-requires c κs = search needs
+
+-- src/opening.rt:56:1
+returns-3 : tie.Need-returns-3
+unfolding openBody
+returns-3 c =
+    let at-else2 = c .before .before .before in
+    let at-opens = at-else2 .before .before in
+    let o : not (opens (at-opens .before .before .args .kind)) ≡ false = rw (at-opens .opens-kind .ensures) at (at-else2 .before .if1 .left) in
+    c .message-shape .ensures ∙ rw o (simp (le-ltb _ _ (at-else2 .if2 .left), eq-eqb _ _ (c .before .if3 .taken), c .before .before .read32 .ensures))
+
+returns-4 : tie.Need-returns-4
+unfolding openBody
+returns-4 c =
+    let at-else2 = c .before .before .before in
+    let at-opens = at-else2 .before .before in
+    let o : not (opens (at-opens .before .before .args .kind)) ≡ false = rw (at-opens .opens-kind .ensures) at (at-else2 .before .if1 .left) in
+    c .uart-shape .ensures ∙ rw o (simp (le-ltb _ _ (at-else2 .if2 .left), ne-eqb _ _ (c .before .if3 .left), c .before .before .read32 .ensures))
+
+pub open-body-spec : {M : Type 1} → statement M
+open-body-spec =
+    tie.close
+    (tie.spec
+    opens-kind-requires
+    returns
+    returns-2
+    read32-requires
+    message-shape-requires
+    uart-shape-requires
+    returns-3
+    returns-4)

@@ -1,0 +1,81 @@
+use Rattle.body.specs.declared.Message.{Message}
+use Rattle.body.specs.Walk.{headAt, blockAt}
+use native.Mathlib.Omega.{arith}
+use mathlib.Core.Path.{_≡_, refl, sym, ap, _∙_}
+use borrow.Author.Tests.{le-leb, lt-leb, lt-ltb, le-ltb, eq-eqb, ne-eqb, not-true, not-false}
+use borrow.Author.Needs.{needs}
+use Rattle.body.proofs.walk.next_block.Statement.{statement}
+use Rattle.body.proofs.walk.next_block.Tie as tie
+use Rattle.body.proofs.walk.next_block.Reads as reads
+use Rattle.body.proofs.walk.next_block.Lts as lts
+use Rattle.body.proofs.fault.Reads as fault-reads
+use Rattle.body.proofs.walk.head_at.Reads as head-at-reads
+use Rattle.body.proofs.walk.judge_block.Reads as judge-block-reads
+use Rattle.body.proofs.walk.stamp_length.Reads as stamp-length-reads
+
+-- src/walk.rt:73:30
+fault-requires : tie.Need-fault-requires
+fault-requires c κs = search needs
+
+-- src/walk.rt:73:9
+returns : tie.Need-returns
+unfolding blockAt
+returns c = simp (c .fault .ensures, le-leb _ _ (c .before .if1 .taken))
+
+-- src/walk.rt:75:26
+stamp-length-requires : tie.Need-stamp-length-requires
+stamp-length-requires c κs = search needs
+
+-- src/walk.rt:75:21
+add-if2 : tie.Need-add-if2
+add-if2 c = search needs
+
+-- src/walk.rt:75:21
+add-if2-2 : tie.Need-add-if2-2
+add-if2-2 c = search needs
+
+-- src/walk.rt:76:30
+fault-requires-2 : tie.Need-fault-requires-2
+fault-requires-2 c κs = search needs
+
+-- src/walk.rt:76:9
+returns-2 : tie.Need-returns-2
+unfolding blockAt
+returns-2 c = simp (c .fault2 .ensures, lt-leb _ _ (c .before .before .before .if1 .left), ← c .before .before .stamp-length .ensures .0, lt-ltb _ _ (c .before .if2 .taken))
+
+-- src/walk.rt:78:9
+head-at-requires : tie.Need-head-at-requires
+head-at-requires c κs = search needs
+
+-- src/walk.rt:80:5
+judge-block-requires : tie.Need-judge-block-requires
+unfolding headAt
+judge-block-requires c κs =
+    let e = c .head-at .ensures in
+    let s = ap (λ (m : Message). m .start) e in
+    let n = ap (λ (m : Message). m .length) e in
+    omega (arith, s, n, c .before .before .stamp-length .ensures .0)
+
+-- src/walk.rt:69:1
+returns-3 : tie.Need-returns-3
+unfolding blockAt
+returns-3 c =
+    let at-else2 = c .before .before in
+    let at-stamp = at-else2 .before in
+    c .judge-block .ensures
+    ∙ simp (lt-leb _ _ (at-stamp .before .if1 .left), ← at-stamp .stamp-length .ensures .0, le-ltb _ _ (at-else2 .if2 .left), c .before .head-at .ensures)
+
+pub next-block-spec : {M : Type 1} → statement M
+next-block-spec =
+    tie.close
+    (tie.spec
+    fault-requires
+    returns
+    stamp-length-requires
+    add-if2
+    add-if2-2
+    fault-requires-2
+    returns-2
+    head-at-requires
+    judge-block-requires
+    returns-3)

@@ -1,0 +1,63 @@
+-- A body as the blocks it holds: what is built, and what an accepted body is.
+use mathlib.Core.List.{List, [], _∷_, _++_}
+use mathlib.Core.Path.{_≡_}
+use mathlib.Core.Bool.{Bool, true}
+use Prim.Native.Nat.{ℕ, _%_, _^_, _<_}
+use lib.ListN.{length, take, replicate}
+use Rattle.units.specs.Units.{part, bytesOf}
+use Rattle.body.specs.Times.{timeOk}
+use Rattle.body.specs.Walk.{openBody, stampLength}
+use Rattle.body.specs.Answers.{messageIn, tab}
+use Rattle.body.specs.declared.TimeRule.{TimeRule}
+use Rattle.body.specs.declared.Shape.{Shape}
+use Rattle.body.specs.declared.Opened.the-variants.{Shaped}
+
+-- what a block holds: its time (0 if none is stored), its ID word and its n bytes
+pub record Entry : Type 0 where
+  pub time : ℕ
+  pub id : ℕ
+  pub bytes : List ℕ
+
+-- a block: a time stamp of 8 bytes or none, an ID word of 4, the n bytes, then one zero pad byte if n is odd
+unfoldable pub blockBytes : Bool → Entry → List ℕ
+blockBytes stamped e =
+    bytesOf (stampLength stamped) (e .time) ++ bytesOf 4 (e .id) ++ e .bytes ++ replicate (length (e .bytes) % 2) 0
+
+-- a block that keeps the rules: n is bits 15-0 of the ID word, 1 to 65,535, and the time is in form, 0 where none is stored
+pub record Fits (stamped : Bool) (rule : TimeRule) (e : Entry) : Type 0 where
+  pub some : 0 < length (e .bytes)
+  pub size : length (e .bytes) ≡ e .id % 2 ^ 16
+  pub word : e .id < 2 ^ 32
+  pub time-fits : e .time < 256 ^ stampLength stamped
+  pub time-ok : timeOk rule (e .time) ≡ true
+
+abbrev pub AllFit : Bool → TimeRule → List Entry → Type 0
+AllFit stamped rule [] = Unit {0}
+AllFit stamped rule (e ∷ es) = Fits stamped rule e × AllFit stamped rule es
+
+-- blocks, one behind the other
+unfoldable pub blocksBytes : Bool → List Entry → List ℕ
+blocksBytes stamped [] = []
+blocksBytes stamped (e ∷ es) = blockBytes stamped e ++ blocksBytes stamped es
+
+-- the k-th block as the walk reports it
+unfoldable pub entryIn : ℕ → TimeRule → List ℕ → ℕ → Entry
+entryIn kind rule bs k =
+    record {
+      time = messageIn kind rule bs k .time;
+      id = messageIn kind rule bs k .id;
+      bytes = part bs (messageIn kind rule bs k .start) (messageIn kind rule bs k .length);
+    }
+
+-- the first n blocks as the walk reports them
+unfoldable pub entriesIn : ℕ → TimeRule → List ℕ → ℕ → List Entry
+entriesIn kind rule bs n = tab n (entryIn kind rule bs)
+
+-- bs is its channel word followed by these blocks: the layout's rules, said of what the body holds
+pub record BodyOf (kind : ℕ) (rule : TimeRule) (bs : List ℕ) (es : List Entry) : Type 0 where
+  pub shape : Shape
+  pub opened : openBody kind rule bs ≡ Shaped shape
+  pub counted : shape .counted ≡ true → length es ≡ shape .count
+  pub some : 0 < length es
+  pub is : bs ≡ take 4 bs ++ blocksBytes (shape .stamped) es
+  pub fit : AllFit (shape .stamped) rule es

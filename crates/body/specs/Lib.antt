@@ -1,0 +1,4 @@
+pub mod Times
+pub mod Walk
+pub mod Answers
+pub mod Blocks

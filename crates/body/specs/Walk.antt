@@ -1,0 +1,130 @@
+-- Opened bodies (document 01, from 11.2.9 and 11.2.12): the channel word, one block, where the k-th block stands, and what the walk says.
+-- Places are counted from the body's first byte.
+use mathlib.Core.List.{List}
+use mathlib.Core.Bool.{Bool, true, false, not, _&&_, _||_}
+use Prim.Native.Nat.{ℕ, zero, suc, _+_, _%_, _/_, _^_}
+use lib.ListN.{length}
+use lib.Dec.{ltb, leb, eqb}
+use Rattle.units.specs.Units.{part, field, zeros}
+use Rattle.units.specs.Table.{pick}
+use Rattle.body.specs.Times.{timeOk}
+use Rattle.body.specs.declared.TimeRule.{TimeRule}
+use Rattle.body.specs.declared.Refusal.{Refusal}
+use Rattle.body.specs.declared.Shape.{Shape}
+use Rattle.body.specs.declared.Opened.{Opened}
+use Rattle.body.specs.declared.Opened.the-variants.{Carried, Shaped, Wrong}
+use Rattle.body.specs.declared.Message.{Message}
+use Rattle.body.specs.declared.Block.{Block}
+use Rattle.body.specs.declared.Block.the-variants.{Found, Broken}
+use Rattle.body.specs.declared.Checked.{Checked}
+use Rattle.body.specs.declared.Checked.the-variants.{Counted, Faulty}
+
+-- a refusal: its number and place, and the room needed for 16
+abbrev pub refused : ℕ → ℕ → ℕ → Refusal
+refused number place room = record { number = number; place = place; room = room }
+
+-- 15: an opened body breaks its layout, at the channel word or the first byte of the block at fault
+abbrev pub fault : ℕ → Refusal
+fault place = refused 15 place 0
+
+-- ---- the channel word
+
+-- 0x30 (Message) and 0x50 (UART) are opened; every other type is carried
+abbrev pub opens : ℕ → Bool
+opens kind = eqb kind 0x30 || eqb kind 0x50
+
+-- 0x30: type 00, the counter is the number of blocks, at least 1; type 01, counter 1; types 10 and 11, counter at least 2
+abbrev pub counterOk : ℕ → ℕ → Bool
+counterOk t counter = (eqb t 0 && ltb 0 counter) || (eqb t 1 && eqb counter 1) || (ltb 1 t && ltb 1 counter)
+
+-- 0x30: bits 31-18 are zero, bits 17-16 the type, bits 15-0 the counter; one block but in type 00; always a time stamp
+unfoldable pub messageShape : TimeRule → ℕ → Opened
+messageShape rule word =
+    pick (ltb word (2 ^ 18) && counterOk (word / 2 ^ 16) (word % 2 ^ 16))
+    (Shaped (record { stamped = true; counted = true; count = pick (ltb word (2 ^ 16)) word 1; rule = rule }))
+    Wrong
+
+-- 0x50: bits 30-0 are zero, a time stamp if bit 31 is set; one or more blocks, to the end of the body
+unfoldable pub uartShape : TimeRule → ℕ → Opened
+uartShape rule word =
+    pick (eqb (word % 2 ^ 31) 0)
+    (Shaped (record { stamped = leb (2 ^ 31) word; counted = false; count = 0; rule = rule }))
+    Wrong
+
+-- a body of an opened type starts with its channel word, which is judged whole and first
+unfoldable pub openBody : ℕ → TimeRule → List ℕ → Opened
+openBody kind rule bs =
+    pick (not (opens kind)) Carried
+    (pick (ltb (length bs) 4) Wrong
+    (pick (eqb kind 0x30) (messageShape rule (field bs 0 4)) (uartShape rule (field bs 0 4))))
+
+-- ---- one block
+
+-- a time stamp of 8 bytes, or none
+unfoldable pub stampLength : Bool → ℕ
+stampLength stamped = pick stamped 8 0
+
+-- what the head of a block at `at` says: time (0 if none is stored), ID word, and its n bytes; n is bits 15-0 of the ID word
+unfoldable pub headAt : Bool → List ℕ → ℕ → Message
+headAt stamped bs at =
+    record {
+      time = field bs at (stampLength stamped);
+      id = field bs (at + stampLength stamped) 4;
+      start = at + stampLength stamped + 4;
+      length = field bs (at + stampLength stamped) 4 % 2 ^ 16;
+    }
+
+-- behind its n bytes, and one pad byte if n is odd
+abbrev pub blockEnd : Message → ℕ
+blockEnd m = m .start + m .length + m .length % 2
+
+-- a block at `at` whose head is whole: cut short, time, length zero, pad
+unfoldable pub judge : TimeRule → List ℕ → ℕ → Message → Block
+judge rule bs at m =
+    pick (ltb (length bs) (blockEnd m)) (Broken (fault at))
+    (pick (not (timeOk rule (m .time))) (Broken (fault at))
+    (pick (eqb (m .length) 0) (Broken (fault at))
+    (pick (not (zeros (part bs (m .start + m .length) (m .length % 2)))) (Broken (fault at))
+    (Found m (blockEnd m)))))
+
+-- the block at `at`: nothing there, or cut short in its head, or judged
+unfoldable pub blockAt : Shape → List ℕ → ℕ → Block
+blockAt sh bs at =
+    pick (leb (length bs) at) (Broken (fault at))
+    (pick (ltb (length bs) (at + stampLength (sh .stamped) + 4)) (Broken (fault at))
+    (judge (sh .rule) bs at (headAt (sh .stamped) bs at)))
+
+-- ---- the walk
+
+abbrev pub behind : Block → ℕ
+behind (Found m next) = next
+behind (Broken f) = f .place
+
+-- where the k-th block stands, from 0: behind the channel word, and each behind the one before it
+unfoldable pub spot : Shape → List ℕ → ℕ → ℕ
+spot sh bs zero = 4
+spot sh bs (suc k) = behind (blockAt sh bs (spot sh bs k))
+
+-- k blocks are read and the next would stand at `at`: whether no more are to come
+unfoldable pub stopAt : Shape → ℕ → ℕ → ℕ → Bool
+stopAt sh len k at = pick (sh .counted) (leb (sh .count) k) (ltb 0 k && leb len at)
+
+-- no more are to come: the body ends there, or bytes are left over
+unfoldable pub ending : ℕ → ℕ → ℕ → Checked
+ending len k at = pick (eqb at len) (Counted k) (Faulty (fault at))
+
+abbrev pub after : Block → Checked → Checked
+after (Found m next) rest = rest
+after (Broken f) rest = Faulty f
+
+-- the walk from the k-th block on, in fewer than f turns more; it has always stopped before they run out (walk-enough)
+unfoldable pub walkFrom : Shape → List ℕ → ℕ → ℕ → Checked
+walkFrom sh bs zero k = Faulty (fault (spot sh bs k))
+walkFrom sh bs (suc f) k =
+    pick (stopAt sh (length bs) k (spot sh bs k))
+    (ending (length bs) k (spot sh bs k))
+    (after (blockAt sh bs (spot sh bs k)) (walkFrom sh bs f (suc k)))
+
+-- what the blocks behind the channel word say: their number, or the first fault
+unfoldable pub walk : Shape → List ℕ → Checked
+walk sh bs = walkFrom sh bs (length bs + 1) 0

@@ -1,0 +1,143 @@
+// Opened bodies: how many messages a body holds, one by its number, and all their places.
+// A body is taken with its type and the rule of its time stamps; places are counted from its first byte.
+ghost use mathlib.Core.Path.{_≡_};
+ghost use Prim.Native.Nat.{_+_, _≤_, _^_};
+ghost use lib.ListN.{length};
+ghost use Rattle.body.specs.Walk.{openBody, refused, fault};
+ghost use Rattle.body.specs.Answers.{checkBody, messageAt, listOf, messageIn, listAfter, startsOf, lengthsOf};
+
+mod list;
+mod opening;
+pub mod time;
+pub mod walk;
+
+use list::list_shape;
+use list::pick_message;
+use opening::open_body;
+use walk::count_blocks;
+
+// How the times of a body's messages, or a secondary header's time, are formed.
+pub enum TimeRule {
+    Counter,
+    Chapter4,
+    Ieee1588,
+    Extended,
+}
+
+// A refusal: document 01's number, the place, and the room needed (16; otherwise 0).
+pub struct Refusal {
+    pub number: u8,
+    pub place: usize,
+    pub room: usize,
+}
+
+// What the channel word says of the blocks behind it.
+pub struct Shape {
+    pub stamped: bool,
+    pub counted: bool,
+    pub count: usize,
+    pub rule: TimeRule,
+}
+
+// A body by its type and channel word: not looked into, its shape, or a wrong channel word.
+pub enum Opened {
+    Carried,
+    Shaped(Shape),
+    Wrong,
+}
+
+// One message: its time (0 if none is stored), its ID word, and the place and number of its bytes.
+pub struct Message {
+    pub time: u64,
+    pub id: u32,
+    pub start: usize,
+    pub length: usize,
+}
+
+// A block: its message and the place behind it, or the refusal.
+pub enum Block {
+    Found(Message, usize),
+    Broken(Refusal),
+}
+
+// The number of messages in a body, or the refusal.
+pub enum Checked {
+    Counted(usize),
+    Faulty(Refusal),
+}
+
+// One message, the body's refusal, or no message of that number.
+pub enum Picked {
+    One(Message),
+    Unread(Refusal),
+    Missing,
+}
+
+// The number of messages listed, the body's refusal, or the number that there is no room for.
+pub enum Listed {
+    Count(usize),
+    Unlisted(Refusal),
+    NoRoom(usize),
+}
+
+// The number of messages of a body, 0 for a type that isn't opened, or refusal 15 with its place.
+pub fn check_body(body: &[u8], kind: u8, rule: TimeRule) -> Checked
+    ensures { λ r. ⌜ r ≡ checkBody kind rule (now (body .entry)) ⌝ }
+{
+    match open_body(body, kind, rule) {
+        Opened::Carried => Checked::Counted(0),
+        Opened::Shaped(shape) => count_blocks(body, shape),
+        Opened::Wrong => Checked::Faulty(fault(0)),
+    }
+}
+
+// The message of this number, from 0.
+pub fn message_at(body: &[u8], kind: u8, rule: TimeRule, number: usize) -> Picked
+    ensures { λ r. ⌜ r ≡ messageAt kind rule (now (body .entry)) number ⌝ }
+{
+    match open_body(body, kind, rule) {
+        Opened::Carried => Picked::Missing,
+        Opened::Shaped(shape) => pick_message(body, shape, number),
+        Opened::Wrong => Picked::Unread(fault(0)),
+    }
+}
+
+// Fills two lists with the start of each message, counted from `base` bytes ahead of the body, and its length.
+// Starts are 32-bit numbers, so the body ends within 2^32 bytes of where they are counted from.
+pub fn list_messages(
+    body: &[u8],
+    base: usize,
+    kind: u8,
+    rule: TimeRule,
+    starts: &mut [u32],
+    lengths: &mut [u32],
+) -> Listed
+    requires { ⌜ base + length (now body) ≤ 2 ^ 32 ⌝ }
+    ensures { λ r. ⌜ r ≡ listOf kind rule (now (body .entry)) (length (now (starts .entry))) (length (now (lengths .entry))) ⌝ }
+    ensures { λ r. ⌜ now (starts .exit) ≡ listAfter r (startsOf base (messageIn kind rule (now (body .entry)))) (now (starts .entry)) ⌝ }
+    ensures { λ r. ⌜ now (lengths .exit) ≡ listAfter r (lengthsOf (messageIn kind rule (now (body .entry)))) (now (lengths .entry)) ⌝ }
+{
+    match open_body(body, kind, rule) {
+        Opened::Carried => Listed::Count(0),
+        Opened::Shaped(shape) => list_shape(body, base, shape, starts, lengths),
+        Opened::Wrong => Listed::Unlisted(fault(0)),
+    }
+}
+
+// The one place where a refusal is made.
+pub fn refuse(number: u8, place: usize, room: usize) -> Refusal
+    ensures { λ r. ⌜ r ≡ refused number place room ⌝ }
+{
+    Refusal {
+        number,
+        place,
+        room,
+    }
+}
+
+// 15: the body breaks its layout there.
+pub fn fault(place: usize) -> Refusal
+    ensures { λ r. ⌜ r ≡ fault place ⌝ }
+{
+    refuse(15, place, 0)
+}

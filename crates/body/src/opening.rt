@@ -1,0 +1,71 @@
+// The channel word of an opened body.
+ghost use mathlib.Core.Path.{_≡_};
+ghost use Rattle.body.specs.Walk.{opens, counterOk, messageShape, uartShape, openBody};
+use crate::Opened;
+use crate::Shape;
+use crate::TimeRule;
+use units::read32;
+
+// Whether a type is opened.
+pub fn opens_kind(kind: u8) -> bool
+    ensures { λ r. ⌜ r ≡ opens kind ⌝ }
+{
+    (kind == 0x30) | (kind == 0x50)
+}
+
+// Whether the counter of a 0x30 body fits its type.
+fn counter_ok(t: u32, counter: u32) -> bool
+    ensures { λ r. ⌜ r ≡ counterOk t counter ⌝ }
+{
+    ((t == 0) & (0 < counter)) | ((t == 1) & (counter == 1)) | ((1 < t) & (1 < counter))
+}
+
+// 0x30: the type and the counter.
+fn message_shape(rule: TimeRule, word: u32) -> Opened
+    ensures { λ r. ⌜ r ≡ messageShape rule word ⌝ }
+{
+    if !((word < 262144) & counter_ok(word / 65536, word % 65536)) {
+        return Opened::Wrong;
+    }
+    let count = if word < 65536 { word as usize } else { 1 };
+    Opened::Shaped(Shape {
+        stamped: true,
+        counted: true,
+        count,
+        rule,
+    })
+}
+
+// 0x50: whether blocks have time stamps.
+fn uart_shape(rule: TimeRule, word: u32) -> Opened
+    ensures { λ r. ⌜ r ≡ uartShape rule word ⌝ }
+{
+    if word % 2147483648 == 0 {
+        let stamped = 2147483648 <= word;
+        return Opened::Shaped(Shape {
+            stamped,
+            counted: false,
+            count: 0,
+            rule,
+        });
+    }
+    Opened::Wrong
+}
+
+// What the type and the channel word say of a body.
+pub fn open_body(body: &[u8], kind: u8, rule: TimeRule) -> Opened
+    ensures { λ r. ⌜ r ≡ openBody kind rule (now (body .entry)) ⌝ }
+{
+    if !opens_kind(kind) {
+        return Opened::Carried;
+    }
+    if body.len() < 4 {
+        return Opened::Wrong;
+    }
+    let word = read32(body, 0);
+    if kind == 0x30 {
+        message_shape(rule, word)
+    } else {
+        uart_shape(rule, word)
+    }
+}

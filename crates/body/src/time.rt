@@ -1,0 +1,32 @@
+// Time rules, for message times and the secondary time alike.
+ghost use mathlib.Core.Path.{_≡_};
+ghost use Rattle.body.specs.Times.{timeOk, ruleOf};
+use crate::TimeRule;
+
+// Whether a time is in form.
+pub fn time_ok(rule: TimeRule, time: u64) -> bool
+    ensures { λ r. ⌜ r ≡ timeOk rule time ⌝ }
+{
+    match rule {
+        TimeRule::Counter => time < 281474976710656,
+        TimeRule::Chapter4 => time % 65536 == 0,
+        TimeRule::Ieee1588 => time % 4294967296 < 1000000000,
+        TimeRule::Extended => true,
+    }
+}
+
+// The rule of a number: 1 the counter, else 2 and the time format.
+pub fn rule_of(number: u8) -> TimeRule
+    ensures { λ r. ⌜ r ≡ ruleOf number ⌝ }
+{
+    if number == 1 {
+        return TimeRule::Counter;
+    }
+    if number == 2 {
+        return TimeRule::Chapter4;
+    }
+    if number == 3 {
+        return TimeRule::Ieee1588;
+    }
+    TimeRule::Extended
+}
