@@ -9,7 +9,7 @@ use lib.ListN.{length, drop, getD, set, length-append, length-drop}
 use lib.Seq.{drop-cons, set-at}
 use lib.Dec.{leb, eqb}
 use borrow.Author.Tests.{eqb-true, le-leb, lt-leb}
-use Rattle.units.specs.Table.{pick}
+use Rattle.units.specs.Choice.{pick}
 use Rattle.body.specs.Walk.{fault, openBody, headAt, blockAt, spot, stopAt, ending, walkFrom, walk}
 use Rattle.body.specs.Answers.{messageOf, messageOpened, messageIn, tab, filled, listCounted}
 use Rattle.body.specs.declared.Refusal.{Refusal}

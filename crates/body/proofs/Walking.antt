@@ -9,8 +9,8 @@ use lib.ListN.{length}
 use lib.Dec.{ltb, leb, eqb}
 use borrow.Author.Tests.{ltb-false, eqb-false, not-false, le-leb, lt-leb, lt-ltb, le-ltb, eq-eqb, ne-eqb}
 use Rattle.units.specs.Units.{part, field, zeros}
-use Rattle.units.specs.Table.{pick}
-use Rattle.units.proofs.Tables.{passed}
+use Rattle.units.specs.Choice.{pick}
+use Rattle.units.proofs.Choices.{passed}
 use Rattle.body.specs.Times.{timeOk}
 use Rattle.body.specs.Walk.{fault, opens, messageShape, uartShape, openBody, stampLength, headAt, blockEnd, judge, blockAt, behind, spot, stopAt, ending, after, walkFrom, walk}
 use Rattle.body.specs.declared.TimeRule.{TimeRule}

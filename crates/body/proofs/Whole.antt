@@ -11,10 +11,10 @@ use lib.Seq.{append-snoc, take-add, take-length, length-take-le}
 use lib.Dec.{ltb, leb, eqb}
 use borrow.Author.Tests.{ltb-true, leb-true, leb-false, eqb-true, le-leb, lt-leb, lt-ltb}
 use Rattle.units.specs.Units.{Bytes, part, field, num, bytesOf, zeros}
-use Rattle.units.specs.Table.{pick}
-use Rattle.units.proofs.Numbers.{length-bytesOf, num-bytesOf, bytesOf-num}
-use Rattle.units.proofs.Parts.{length-part, bytes-part, part-at, field-lt}
-use Rattle.units.proofs.Tables.{picked, passed, and-true}
+use Rattle.units.specs.Choice.{pick}
+use Rattle.units.proofs.Numbers.{length-bytesOf, num-bytesOf, zeros-replicate, zeros-are}
+use Rattle.units.proofs.Parts.{length-part, part-at, field-lt, bytesOf-field}
+use Rattle.units.proofs.Choices.{picked, passed, and-true}
 use Rattle.body.specs.Walk.{opens, counterOk, messageShape, uartShape, openBody, stampLength, headAt, blockAt, spot, stopAt, walk}
 use Rattle.body.specs.Answers.{checkOpened, checkBody, messageOf, messageIn, tab}
 use Rattle.body.specs.Blocks.{Entry, blockBytes, Fits, AllFit, blocksBytes, entryIn, entriesIn, BodyOf}
@@ -28,21 +28,6 @@ use Rattle.body.specs.declared.Block.the-variants.{Found, Broken}
 use Rattle.body.specs.declared.Checked.the-variants.{Counted}
 use Rattle.body.proofs.Walking.{Stands, stands, stands-found, found-next, Counting, counting-first, counting-stop, counting-next, ending-exact, open-long}
 use Rattle.body.proofs.Reading.{Reading, reading-first, reading-end, reading-block, reading-step, length-tab, tab-ext}
-
--- ---- zeros
-
-pub zeros-replicate : (n : ℕ) → zeros (replicate n 0) ≡ true
-unfolding zeros
-zeros-replicate zero = refl
-zeros-replicate (suc n) = zeros-replicate n
-
-pub zeros-are : (xs : List ℕ) → zeros xs ≡ true → xs ≡ replicate (length xs) 0
-unfolding zeros
-zeros-are [] t = refl
-zeros-are (x ∷ xs) t =
-    let p = and-true (eqb x 0) (zeros xs) t in
-    let e : x ≡ 0 = eqb-true x 0 (p .0) in
-    rw (e, ← zeros-are xs (p .1))
 
 -- ---- blocks and their bytes
 
@@ -178,10 +163,6 @@ module _ (sh : Shape) (bs : List ℕ) (n : ℕ) where
       go false c = rw (lt-leb (length bs) at l) (never (ltb 0 k))
 
 -- ---- from a body that is accepted to blocks
-
-pub bytesOf-field : (bs : List ℕ) (at n : ℕ) → Bytes bs → at + n ≤ length bs → bytesOf n (field bs at n) ≡ part bs at n
-bytesOf-field bs at n h fits =
-    subst (λ (l : ℕ). bytesOf l (field bs at n) ≡ part bs at n) (length-part bs at n fits) (bytesOf-num (part bs at n) (bytes-part bs at n h))
 
 module _ (sh : Shape) (bs : List ℕ) (at : ℕ) (m : Message) (next : ℕ) (raw : Bytes bs) (found : blockAt sh bs at ≡ Found m next) where
   -- a block that is found is the bytes of what it reports

@@ -3,7 +3,7 @@ use mathlib.Core.List.{List, [], _∷_, _++_}
 use Prim.Native.Nat.{ℕ, zero, suc, _+_, min}
 use lib.ListN.{drop}
 use lib.Dec.{ltb, leb}
-use Rattle.units.specs.Table.{pick}
+use Rattle.units.specs.Choice.{pick}
 use Rattle.body.specs.Walk.{fault, openBody, blockAt, spot, walk}
 use Rattle.body.specs.declared.TimeRule.{TimeRule}
 use Rattle.body.specs.declared.Shape.{Shape}

@@ -2,7 +2,7 @@
 use mathlib.Core.Bool.{Bool, true}
 use Prim.Native.Nat.{ℕ, _%_, _^_}
 use lib.Dec.{ltb, eqb}
-use Rattle.units.specs.Table.{pick}
+use Rattle.units.specs.Choice.{pick}
 use Rattle.body.specs.declared.TimeRule.{TimeRule}
 use Rattle.body.specs.declared.TimeRule.the-variants.{Counter, Chapter4, Ieee1588, Extended}
 

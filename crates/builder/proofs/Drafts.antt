@@ -8,10 +8,10 @@ use lib.ListN.{length, replicate, length-append, length-replicate}
 use lib.Dec.{ltb, eqb}
 use borrow.Author.Tests.{ltb-false, eqb-false, not-false, eq-eqb}
 use Rattle.units.specs.Units.{bytesOf, splice}
-use Rattle.units.specs.Table.{pick}
+use Rattle.units.specs.Choice.{pick}
 use Rattle.units.proofs.Numbers.{length-bytesOf}
 use Rattle.units.proofs.Writes.{chain}
-use Rattle.units.proofs.Tables.{passed, or-false}
+use Rattle.units.proofs.Choices.{passed, or-false}
 use Rattle.body.specs.Walk.{stampLength}
 use Rattle.body.specs.Blocks.{Entry, blockBytes}
 use Rattle.body.specs.declared.Refusal.{Refusal}
@@ -152,7 +152,7 @@ length-block st e = simp (length-append, length-bytesOf, length-replicate)
 
 -- four writes one behind the other are one block
 pub block-put : (st : Bool) (time upper : ℕ) (bytes : List ℕ) (head at : ℕ) (b₀ b₁ b₂ b₃ b₄ : List ℕ) → head ≡ at + stampLength st
-    → at + length (blockBytes st (entryOf time upper bytes)) ≤ length b₀
+    → at + (stampLength st + 4 + length bytes + length bytes % 2) ≤ length b₀
     → b₁ ≡ splice b₀ at (bytesOf (stampLength st) time)
     → b₂ ≡ splice b₁ head (bytesOf 4 (upper * 2 ^ 16 + length bytes))
     → b₃ ≡ splice b₂ (head + 4) bytes
@@ -168,7 +168,6 @@ block-put st time upper bytes head at b₀ b₁ b₂ b₃ b₄ is fits e₁ e₂
     let n₄ : length pad ≡ length bytes % 2 = length-replicate {A = ℕ} (length bytes % 2) 0 in
     let m₂ : length (stamp ++ word) ≡ length stamp + length word = length-append stamp word in
     let m₃ : length (stamp ++ word ++ bytes) ≡ length (stamp ++ word) + length bytes = length-append (stamp ++ word) bytes in
-    let m₄ : length (stamp ++ word ++ bytes ++ pad) ≡ length (stamp ++ word ++ bytes) + length pad = length-append (stamp ++ word ++ bytes) pad in
     let f₂ : b₂ ≡ splice b₀ at (stamp ++ word) = chain b₀ b₁ b₂ at head stamp word e₁ e₂ (omega arith) (omega arith) in
     let f₃ : b₃ ≡ splice b₀ at (stamp ++ word ++ bytes) = chain b₀ b₂ b₃ at (head + 4) (stamp ++ word) bytes f₂ e₃ (omega arith) (omega arith) in
     chain b₀ b₃ b₄ at (head + 4 + length bytes) (stamp ++ word ++ bytes) pad f₃ e₄ (omega arith) (omega arith)

@@ -10,10 +10,10 @@ use lib.Seq.{take-at, drop-append-le, length-take-le}
 use lib.Dec.{ltb, eqb}
 use borrow.Author.Tests.{eqb-true, not-false, lt-ltb, le-ltb, eq-eqb, ne-eqb}
 use Rattle.units.specs.Units.{field, bytesOf, splice}
-use Rattle.units.specs.Table.{pick}
+use Rattle.units.specs.Choice.{pick}
 use Rattle.units.proofs.Numbers.{length-bytesOf, num-bytesOf}
 use Rattle.units.proofs.Writes.{length-splice, take-splice}
-use Rattle.units.proofs.Tables.{and-true}
+use Rattle.units.proofs.Choices.{and-true}
 use Rattle.body.specs.Times.{timeOk, ruleOf}
 use Rattle.body.specs.Walk.{messageShape, uartShape, openBody, stampLength}
 use Rattle.body.specs.Blocks.{Entry, blockBytes, blocksBytes, Fits, AllFit, BodyOf}

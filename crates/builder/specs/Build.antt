@@ -5,7 +5,7 @@ use Prim.Native.Nat.{ℕ, _+_, _*_, _%_, _^_}
 use lib.ListN.{length}
 use lib.Dec.{ltb, eqb}
 use Rattle.units.specs.Units.{bytesOf, splice}
-use Rattle.units.specs.Table.{pick}
+use Rattle.units.specs.Choice.{pick}
 use Rattle.body.specs.Times.{timeOk, ruleOf}
 use Rattle.body.specs.Walk.{refused, stampLength}
 use Rattle.body.specs.Blocks.{Entry}

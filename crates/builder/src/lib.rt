@@ -1,7 +1,7 @@
 // The body builder: makes 0x30 (type 00) and 0x50 bodies in a lent buffer.
 // A body's state goes into each step by value and comes back, also from a refused step, which leaves the buffer as it was.
 ghost use mathlib.Core.Path.{_≡_};
-ghost use Prim.Native.Nat.{_+_, _≤_, _<_};
+ghost use Prim.Native.Nat.{_+_, _%_, _≤_, _<_};
 ghost use lib.ListN.{length};
 ghost use Rattle.units.specs.Units.{bytesOf, splice};
 ghost use Rattle.body.specs.Blocks.{blockBytes};
@@ -207,7 +207,7 @@ fn put_stamp(buf: &mut [u8], at: usize, stamped: bool, time: u64)
 
 // Writes a block.
 fn put_block(buf: &mut [u8], at: usize, stamped: bool, time: u64, upper: u16, bytes: &[u8])
-    requires { ⌜ (length (now bytes) < 65536) × (at + length (blockBytes stamped (entryOf time upper (now bytes))) ≤ length (now buf)) ⌝ }
+    requires { ⌜ (length (now bytes) < 65536) × (at + (stampLength stamped + 4 + length (now bytes) + length (now bytes) % 2) ≤ length (now buf)) ⌝ }
     ensures { λ _. ⌜ now (buf .exit) ≡ splice (now (buf .entry)) at (blockBytes stamped (entryOf time upper (now (bytes .entry)))) ⌝ }
 {
     let head = at + stamp_length(stamped);

@@ -2,4 +2,4 @@ pub mod Numbers
 pub mod Parts
 pub mod Writes
 pub mod Sums
-pub mod Tables
+pub mod Choices

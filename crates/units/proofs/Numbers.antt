@@ -10,6 +10,7 @@ use lib.Dec.{lit<, ltb, eqb}
 use lib.ListN.{length, take, drop, getD, replicate, take-append-drop}
 use borrow.Author.Tests.{ltb-true, eq-eqb, ne-eqb, eqb-true}
 use Rattle.units.specs.Units.{Bytes, num, bytesOf, zeros}
+use Rattle.units.proofs.Choices.{and-true}
 
 pub pow-pos : (n : ℕ) → 0 < 256 ^ n
 pow-pos n = one-le-pow n 256 (lit< tt)
@@ -137,3 +138,16 @@ zeros-false (b ∷ bs) (suc i) h = rest (eqb b 0) (zeros-false bs i h)
     rest : (t : Bool) → zeros bs ≡ false → (t && zeros bs) ≡ false
     rest true e = e
     rest false e = refl
+
+pub zeros-replicate : (n : ℕ) → zeros (replicate n 0) ≡ true
+unfolding zeros
+zeros-replicate zero = refl
+zeros-replicate (suc n) = zeros-replicate n
+
+pub zeros-are : (xs : List ℕ) → zeros xs ≡ true → xs ≡ replicate (length xs) 0
+unfolding zeros
+zeros-are [] t = refl
+zeros-are (x ∷ xs) t =
+    let p = and-true (eqb x 0) (zeros xs) t in
+    let e : x ≡ 0 = eqb-true x 0 (p .0) in
+    rw (e, ← zeros-are xs (p .1))

@@ -1,5 +1,5 @@
 -- Laws of parts and fields. Assumes nothing.
-use mathlib.Core.Path.{_≡_, refl, sym, ap, _∙_}
+use mathlib.Core.Path.{_≡_, refl, sym, ap, _∙_, subst}
 use mathlib.Core.List.{List, [], _∷_, _++_}
 use Prim.Native.Nat.{ℕ, zero, suc, _+_, _-_, _*_, _^_, _≤_, _<_}
 use native.Mathlib.Omega.{arith}
@@ -7,8 +7,8 @@ use native.Mathlib.Nat.{zero-add, add-zero, one-mul, pow-succ', mul-assoc, suc-s
 use lib.Dec.{lit<}
 use lib.ListN.{length, take, drop, getD, length-take, length-drop}
 use lib.Seq.{take-take, drop-drop, take-append-le, drop-append-le, drop-append-add, take-at, drop-at, take-nil, drop-nil}
-use Rattle.units.specs.Units.{Bytes, part, num, field}
-use Rattle.units.proofs.Numbers.{bytes-take, bytes-drop, num-lt}
+use Rattle.units.specs.Units.{Bytes, part, num, field, bytesOf}
+use Rattle.units.proofs.Numbers.{bytes-take, bytes-drop, bytesOf-num, num-lt}
 
 -- ---- parts
 
@@ -85,3 +85,8 @@ pub field-lt : (bs : List ℕ) (at n : ℕ) → Bytes bs → at + n ≤ length b
 field-lt bs at n h fits =
     let l : length (part bs at n) ≡ n = length-part bs at n fits in
     rw l at (num-lt (part bs at n) (bytes-part bs at n h))
+
+-- the bytes of a field are those of its number
+pub bytesOf-field : (bs : List ℕ) (at n : ℕ) → Bytes bs → at + n ≤ length bs → bytesOf n (field bs at n) ≡ part bs at n
+bytesOf-field bs at n h fits =
+    subst (λ (l : ℕ). bytesOf l (field bs at n) ≡ part bs at n) (length-part bs at n fits) (bytesOf-num (part bs at n) (bytes-part bs at n h))

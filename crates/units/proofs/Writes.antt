@@ -1,9 +1,9 @@
 -- Laws of what is written: `splice`, runs of writes, and a loop that writes a byte a turn. Assumes nothing.
 use mathlib.Core.Path.{_≡_, refl, sym, ap, _∙_}
-use mathlib.Core.List.{List, [], _∷_, _++_, append-assoc}
+use mathlib.Core.List.{List, [], _∷_, _++_, append-assoc, append-nil}
 use Prim.Native.Nat.{ℕ, _+_, _-_, _%_, _/_, _^_, _≤_, _<_}
 use native.Mathlib.Omega.{arith}
-use native.Mathlib.Nat.{add-assoc}
+use native.Mathlib.Nat.{add-assoc, add-zero}
 use native.Mathlib.Numerals.{add-one}
 use lib.ListN.{length, take, drop, getD, set, length-append, length-take, length-drop, take-append-drop}
 use lib.Seq.{paste, paste-suc, take-length, sets, sets-eq, length-take-le, take-take, drop-drop, take-add, drop-append-le, take-at, drop-at}
@@ -58,6 +58,9 @@ module _ (bs : List ℕ) (at : ℕ) (vs : List ℕ) (fits : at + length vs ≤ l
       let f : at + length vs + length us ≡ at + length (vs ++ us) = omega (arith, length-append vs us) in
       rw (e, take-splice, ← drop-drop (length us) (at + length vs) (splice bs at vs), drop-splice, drop-drop, f)
       (simp append-assoc)
+
+pub splice-none : (bs : List ℕ) (at : ℕ) → splice bs at [] ≡ bs
+splice-none bs at = rw (append-nil, add-zero) (take-append-drop at bs)
 
 -- two calls that write one behind the other
 pub chain : (b₀ b₁ b₂ : List ℕ) (at next : ℕ) (xs ys : List ℕ) → b₁ ≡ splice b₀ at xs → b₂ ≡ splice b₁ next ys → next ≡ at + length xs

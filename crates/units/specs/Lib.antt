@@ -1,2 +1,2 @@
 pub mod Units
-pub mod Table
+pub mod Choice
