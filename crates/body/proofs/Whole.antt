@@ -6,6 +6,7 @@ use mathlib.Core.Logic.{_↔_}
 use Prim.Native.Nat.{ℕ, zero, suc, _+_, _%_, _/_, _^_, _≤_, _<_}
 use native.Mathlib.Omega.{arith}
 use native.Mathlib.Numerals.{add-one}
+use native.Mathlib.Nat.{add-zero, zero-add}
 use lib.ListN.{length, take, replicate, length-append, length-replicate}
 use lib.Seq.{append-snoc, take-add, take-length, length-take-le}
 use lib.Dec.{ltb, leb, eqb}
@@ -17,7 +18,7 @@ use Rattle.units.proofs.Parts.{length-part, part-at, field-lt, bytesOf-field}
 use Rattle.units.proofs.Choices.{picked, passed, and-true}
 use Rattle.body.specs.Walk.{opens, counterOk, messageShape, uartShape, openBody, stampLength, headAt, blockAt, spot, stopAt, walk}
 use Rattle.body.specs.Answers.{checkOpened, checkBody, messageOf, messageIn, tab}
-use Rattle.body.specs.Blocks.{Entry, blockBytes, Fits, AllFit, blocksBytes, entryIn, entriesIn, BodyOf}
+use Rattle.body.specs.Blocks.{Entry, blockBytes, Fits, AllFit, blocksBytes, entryAt, entriesIn, BodyOf}
 use Rattle.body.specs.declared.TimeRule.{TimeRule}
 use Rattle.body.specs.declared.Shape.{Shape}
 use Rattle.body.specs.declared.Opened.{Opened}
@@ -26,34 +27,13 @@ use Rattle.body.specs.declared.Message.{Message}
 use Rattle.body.specs.declared.Block.{Block}
 use Rattle.body.specs.declared.Block.the-variants.{Found, Broken}
 use Rattle.body.specs.declared.Checked.the-variants.{Counted}
-use Rattle.body.proofs.Walking.{Stands, stands, stands-found, found-next, Counting, counting-first, counting-stop, counting-next, ending-exact, open-long}
-use Rattle.body.proofs.Reading.{Reading, reading-first, reading-end, reading-block, reading-step, length-tab, tab-ext}
-
--- ---- blocks and their bytes
+use Rattle.body.proofs.Blocks.{length-blockBytes, blocks-snoc, fit-snoc}
+use Rattle.body.proofs.Walking.{Stands, stands, stands-found, found-next, Walking, Counting, counting-first, counting-stop, counting-next, ending-exact, open-long}
+use Rattle.body.proofs.Reading.{Reading, reading-first, reading-end, reading-block, reading-step, walking-message, message-shaped, length-tab, tab-ext}
 
 -- the k-th block of a body of this shape
-abbrev pub entryOf : Shape → List ℕ → ℕ → Entry
-entryOf sh bs k =
-    record { time = messageOf sh bs k .time; id = messageOf sh bs k .id; bytes = part bs (messageOf sh bs k .start) (messageOf sh bs k .length) }
-
--- what a message reports, taken out of the body
-abbrev pub entryAt : List ℕ → Message → Entry
-entryAt bs m = record { time = m .time; id = m .id; bytes = part bs (m .start) (m .length) }
-
-pub length-blockBytes : (stamped : Bool) (e : Entry)
-    → length (blockBytes stamped e) ≡ stampLength stamped + 4 + length (e .bytes) + length (e .bytes) % 2
-unfolding blockBytes
-length-blockBytes stamped e = simp (length-append, length-bytesOf, length-replicate)
-
-pub blocks-snoc : (stamped : Bool) (es : List Entry) (e : Entry) → blocksBytes stamped (es ++ (e ∷ [])) ≡ blocksBytes stamped es ++ blockBytes stamped e
-unfolding blocksBytes
-blocks-snoc stamped [] e = append-nil (blockBytes stamped e)
-blocks-snoc stamped (x ∷ es) e = rw (blocks-snoc stamped es e, append-assoc)
-
-pub fit-snoc : (stamped : Bool) (rule : TimeRule) (es : List Entry) (e : Entry) → AllFit stamped rule es → Fits stamped rule e
-    → AllFit stamped rule (es ++ (e ∷ []))
-fit-snoc stamped rule [] e h f = (f, tt)
-fit-snoc stamped rule (x ∷ es) e h f = (h .0, fit-snoc stamped rule es e (h .1) f)
+abbrev entryOf : Shape → List ℕ → ℕ → Entry
+entryOf sh bs k = entryAt bs (messageOf sh bs k)
 
 -- ---- from blocks to a body that is accepted
 
@@ -111,23 +91,28 @@ module _ (sh : Shape) (bs front rest : List ℕ) (e : Entry) (is : bs ≡ front 
         pad = rw pZ (zeros-replicate (n % 2));
       }
 
-entry-there : (sh : Shape) (bs : List ℕ) (k at : ℕ) (m : Message) (next : ℕ) → at ≡ spot sh bs k → blockAt sh bs at ≡ Found m next
-    → entryOf sh bs k ≡ entryAt bs m
-unfolding messageOf
-entry-there sh bs k at m next is f = rw (← is, f)
+shift : (f g : ℕ → ℕ) (k n : ℕ) → f (k + 0) ≡ g 0 → ((i : ℕ) → i < n → f (k + 1 + i) ≡ g (suc i)) → (i : ℕ) → i < suc n → f (k + i) ≡ g i
+shift f g k n first more zero h = first
+shift f g k n first more (suc i) h = let e : k + 1 + i ≡ k + suc i = omega arith in subst (λ (j : ℕ). f j ≡ g (suc i)) e (more i (omega arith))
 
--- n blocks up to the end of the body, where the walk stops and not before, are counted and reported
+-- n blocks up to the end of the body, where the walk stops and not before, are counted and reported where they stand
 module _ (sh : Shape) (bs : List ℕ) (n : ℕ) (stop : stopAt sh (length bs) n (length bs) ≡ true)
     (on : (k at : ℕ) → k < n → at < length bs → stopAt sh (length bs) k at ≡ false) where
   walk-blocks : (es : List Entry) (front : List ℕ) (k : ℕ) → k + length es ≡ n → bs ≡ front ++ blocksBytes (sh .stamped) es
-      → AllFit (sh .stamped) (sh .rule) es → Counting sh bs k (length front) → (walk sh bs ≡ Counted n) × (tab n (entryOf sh bs) ≡ tab k (entryOf sh bs) ++ es)
+      → AllFit (sh .stamped) (sh .rule) es → Counting sh bs k (length front)
+      → (walk sh bs ≡ Counted n)
+      × (tab n (entryOf sh bs) ≡ tab k (entryOf sh bs) ++ es)
+      × ((i : ℕ) → i < length es → messageOf sh bs (k + i) .start ≡ length front + length (blocksBytes (sh .stamped) (take i es)) + stampLength (sh .stamped) + 4)
   unfolding blocksBytes tab
   walk-blocks [] front k ends is fit now =
       let e : k ≡ n = omega arith in
       let l : length front ≡ length bs = omega (arith, ap length is, length-append front []) in
       let there = subst (λ (at : ℕ). Counting sh bs k at) l now in
-      let s : stopAt sh (length bs) k (length bs) ≡ true = rw e stop in
-      (counting-stop sh bs k (length bs) there s ∙ ending-exact (length bs) k (length bs) refl ∙ ap Counted e, rw (append-nil, e))
+      let s : stopAt sh (length bs) k (length bs) ≡ true = rw e stop in (
+        counting-stop sh bs k (length bs) there s ∙ ending-exact (length bs) k (length bs) refl ∙ ap Counted e,
+        rw (append-nil, e),
+        λ i h. absurd (omega arith),
+      )
   walk-blocks (e ∷ es) front k ends is fit now =
       let block = blockBytes (sh .stamped) e in
       let m = messageOn (sh .stamped) (length front) e in
@@ -136,9 +121,14 @@ module _ (sh : Shape) (bs : List ℕ) (n : ℕ) (stop : stopAt sh (length bs) n 
       let b = found-next sh bs (length front) m next f in
       let then = counting-next sh bs k (length front) now m next (on k (length front) (omega arith) (omega (arith, b .0, b .1))) f in
       let rest = walk-blocks es (front ++ block) (k + 1) (omega arith) (is ∙ simp append-assoc) (fit .1) then in
-      let here : entryOf sh bs k ≡ e =
-      rw (entry-there sh bs k (length front) m next (now .0 .0) f, bytes-there sh bs front (blocksBytes (sh .stamped) es) e is) in
-      (rest .0, rest .1 ∙ rw (add-one, tab, here) (append-snoc (tab k (entryOf sh bs)) e es))
+      let there : m ≡ messageOf sh bs k = walking-message sh bs k (length front) m next (now .0) f in
+      let here : entryOf sh bs k ≡ e = rw (← there, bytes-there sh bs front (blocksBytes (sh .stamped) es) e is) in
+      let place : ℕ → ℕ = λ i. length front + length (blocksBytes (sh .stamped) (take i (e ∷ es))) + stampLength (sh .stamped) + 4 in (
+        rest .0,
+        rest .1 ∙ rw (add-one, tab, here) (append-snoc (tab k (entryOf sh bs)) e es),
+        shift (λ j. messageOf sh bs j .start) place k (length es) (rw (add-zero, ← there) (omega arith))
+            (λ i h. rest .2 i h ∙ omega (arith, length-append front block, length-append block (blocksBytes (sh .stamped) (take i es)))),
+      )
 
 -- the walk stops behind the last of n blocks, and not before
 module _ (sh : Shape) (bs : List ℕ) (n : ℕ) where
@@ -218,11 +208,11 @@ come-first : (sh : Shape) (bs : List ℕ) → Come sh bs 0 4
 unfolding blocksBytes tab
 come-first sh bs = record { is = sym (append-nil (take 4 bs)); fit = tt; within = λ c. omega arith }
 
-come-next : (sh : Shape) (bs : List ℕ) (k at : ℕ) (m : Message) (next : ℕ) → Bytes bs → at ≡ spot sh bs k → stopAt sh (length bs) k at ≡ false
+come-next : (sh : Shape) (bs : List ℕ) (k at : ℕ) (m : Message) (next : ℕ) → Bytes bs → Walking sh bs k at → stopAt sh (length bs) k at ≡ false
     → blockAt sh bs at ≡ Found m next → Come sh bs k at → Come sh bs (k + 1) next
 unfolding tab stopAt
 come-next sh bs k at m next raw there on found come =
-    let e : entryOf sh bs k ≡ entryAt bs m = entry-there sh bs k at m next there found in
+    let e : entryOf sh bs k ≡ entryAt bs m = ap (entryAt bs) (sym (walking-message sh bs k at m next there found)) in
     record {
       is =
           rw (add-one, tab, blocks-snoc (sh .stamped) (tab k (entryOf sh bs)) (entryOf sh bs k), e)
@@ -280,7 +270,7 @@ module _ (sh : Shape) (bs : List ℕ) (n : ℕ) (raw : Bytes bs) (least : sh .co
       go true s x f rest = holds-last k at now come s
       go false s (Broken r) f rest = absurd (reading-block sh bs n k at now r s f)
       go false s (Found m next) f rest =
-          rest next (found-next sh bs at m next f .0) (reading-step sh bs n k at now m next s f) (come-next sh bs k at m next raw (now .0 .0) s f come)
+          rest next (found-next sh bs at m next f .0) (reading-step sh bs n k at now m next s f) (come-next sh bs k at m next raw (now .0) s f come)
 
 -- ---- the channel word
 
@@ -349,22 +339,24 @@ open-not-carried kind rule bs o e =
         never (ltb w (2 ^ 18) && counterOk (w / 2 ^ 16) (w % 2 ^ 16)) (record { stamped = true; counted = true; count = pick (ltb w (2 ^ 16)) w 1; rule = rule }) e
     go false w e = never (eqb (w % 2 ^ 31) 0) (record { stamped = leb (2 ^ 31) w; counted = false; count = 0; rule = rule }) e
 
--- ---- the three theorems
+-- ---- the theorems
 
 entries-shaped : (kind : ℕ) (rule : TimeRule) (bs : List ℕ) (sh : Shape) (n : ℕ) → openBody kind rule bs ≡ Shaped sh
     → entriesIn kind rule bs n ≡ tab n (entryOf sh bs)
-unfolding entriesIn entryIn messageIn
-entries-shaped kind rule bs sh n o = tab-ext n (entryIn kind rule bs) (entryOf sh bs) (λ k h. simp o)
+unfolding entriesIn
+entries-shaped kind rule bs sh n o = tab-ext n _ (entryOf sh bs) (λ k h. ap (entryAt bs) (message-shaped kind rule bs sh k o))
 
 check-shaped : (kind : ℕ) (rule : TimeRule) (bs : List ℕ) (sh : Shape) → openBody kind rule bs ≡ Shaped sh → checkBody kind rule bs ≡ walk sh bs
 unfolding checkBody
 check-shaped kind rule bs sh o = simp o
 
--- a body that is its channel word and these blocks is accepted, and they are what is reported
-pub body-of-blocks : (kind : ℕ) (rule : TimeRule) (bs : List ℕ) (es : List Entry) → BodyOf kind rule bs es
-    → (checkBody kind rule bs ≡ Counted (length es)) × (entriesIn kind rule bs (length es) ≡ es)
+-- the walk over a body that is its channel word and these blocks
+blocks-walked : (kind : ℕ) (rule : TimeRule) (bs : List ℕ) (es : List Entry) (b : BodyOf kind rule bs es)
+    → (walk (b .shape) bs ≡ Counted (length es))
+    × (tab (length es) (entryOf (b .shape) bs) ≡ es)
+    × ((i : ℕ) → i < length es → messageOf (b .shape) bs (0 + i) .start ≡ 4 + length (blocksBytes (b .shape .stamped) (take i es)) + stampLength (b .shape .stamped) + 4)
 unfolding tab
-body-of-blocks kind rule bs es b =
+blocks-walked kind rule bs es b =
     let sh = b .shape in
     let long : 4 ≤ length bs = open-long kind rule bs sh (b .opened) in
     let four : length (take 4 bs) ≡ 4 = length-take-le 4 bs long in
@@ -372,7 +364,21 @@ body-of-blocks kind rule bs es b =
     let w =
     walk-blocks sh bs (length es) (stop-last sh bs (length es) (b .counted) (b .some)) (on-before sh bs (length es) (b .counted))
     es (take 4 bs) 0 (omega arith) (b .is) fit (rw four (counting-first sh bs long)) in
-    (check-shaped kind rule bs sh (b .opened) ∙ w .0, entries-shaped kind rule bs sh (length es) (b .opened) ∙ w .1)
+    (w .0, w .1, λ i h. rw four at (w .2 i h))
+
+-- a body that is its channel word and these blocks is accepted, and they are what is reported
+pub body-of-blocks : (kind : ℕ) (rule : TimeRule) (bs : List ℕ) (es : List Entry) → BodyOf kind rule bs es
+    → (checkBody kind rule bs ≡ Counted (length es)) × (entriesIn kind rule bs (length es) ≡ es)
+body-of-blocks kind rule bs es b =
+    let w = blocks-walked kind rule bs es b in
+    (check-shaped kind rule bs (b .shape) (b .opened) ∙ w .0, entries-shaped kind rule bs (b .shape) (length es) (b .opened) ∙ w .1)
+
+-- and each where it stands: behind the channel word, the blocks before it, its stamp and its ID word
+pub block-places : (kind : ℕ) (rule : TimeRule) (bs : List ℕ) (es : List Entry) (b : BodyOf kind rule bs es) (k : ℕ) → k < length es
+    → messageIn kind rule bs k .start ≡ 4 + length (blocksBytes (b .shape .stamped) (take k es)) + stampLength (b .shape .stamped) + 4
+block-places kind rule bs es b k h =
+    ap (λ (m : Message). m .start) (message-shaped kind rule bs (b .shape) k (b .opened))
+    ∙ rw zero-add at (blocks-walked kind rule bs es b .2 k h)
 
 -- an accepted body is exactly its channel word followed by the blocks of the messages reported: nothing invented, nothing left out
 pub body-is-blocks : (kind : ℕ) (rule : TimeRule) (bs : List ℕ) (n : ℕ) → Bytes bs → opens kind ≡ true → checkBody kind rule bs ≡ Counted n

@@ -10,6 +10,7 @@ use Rattle.body.specs.Walk.{openBody, stampLength}
 use Rattle.body.specs.Answers.{messageIn, tab}
 use Rattle.body.specs.declared.TimeRule.{TimeRule}
 use Rattle.body.specs.declared.Shape.{Shape}
+use Rattle.body.specs.declared.Message.{Message}
 use Rattle.body.specs.declared.Opened.the-variants.{Shaped}
 
 -- what a block holds: its time (0 if none is stored), its ID word and its n bytes
@@ -40,18 +41,13 @@ unfoldable pub blocksBytes : Bool → List Entry → List ℕ
 blocksBytes stamped [] = []
 blocksBytes stamped (e ∷ es) = blockBytes stamped e ++ blocksBytes stamped es
 
--- the k-th block as the walk reports it
-unfoldable pub entryIn : ℕ → TimeRule → List ℕ → ℕ → Entry
-entryIn kind rule bs k =
-    record {
-      time = messageIn kind rule bs k .time;
-      id = messageIn kind rule bs k .id;
-      bytes = part bs (messageIn kind rule bs k .start) (messageIn kind rule bs k .length);
-    }
+-- what a message reports, its bytes taken out of the body
+abbrev pub entryAt : List ℕ → Message → Entry
+entryAt bs m = record { time = m .time; id = m .id; bytes = part bs (m .start) (m .length) }
 
--- the first n blocks as the walk reports them
+-- the first n blocks as they are reported
 unfoldable pub entriesIn : ℕ → TimeRule → List ℕ → ℕ → List Entry
-entriesIn kind rule bs n = tab n (entryIn kind rule bs)
+entriesIn kind rule bs n = tab n (λ k. entryAt bs (messageIn kind rule bs k))
 
 -- bs is its channel word followed by these blocks: the layout's rules, said of what the body holds
 pub record BodyOf (kind : ℕ) (rule : TimeRule) (bs : List ℕ) (es : List Entry) : Type 0 where

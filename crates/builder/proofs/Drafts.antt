@@ -1,12 +1,12 @@
 -- Laws of the builder's steps: what an answer says of the tests behind it, and what a step leaves in its buffer. Assumes nothing.
-use mathlib.Core.Path.{_≡_, sym}
+use mathlib.Core.Path.{_≡_, refl, sym}
 use mathlib.Core.List.{List, _++_}
 use mathlib.Core.Bool.{Bool, true, false, not, _&&_, _||_}
 use Prim.Native.Nat.{ℕ, _+_, _*_, _%_, _^_, _≤_, _<_}
 use native.Mathlib.Omega.{arith}
 use lib.ListN.{length, replicate, length-append, length-replicate}
 use lib.Dec.{ltb, eqb}
-use borrow.Author.Tests.{ltb-false, eqb-false, not-false, eq-eqb}
+use borrow.Author.Tests.{ltb-false, eqb-true, eqb-false, not-false, le-ltb, eq-eqb}
 use Rattle.units.specs.Units.{bytesOf, splice}
 use Rattle.units.specs.Choice.{pick}
 use Rattle.units.proofs.Numbers.{length-bytesOf}
@@ -41,6 +41,15 @@ draft-facts d room e =
       not-false (makes (d .kind) (d .rule)) (q .1),
       few-blocks (d .kind) (d .blocks) 65535 (p .1),
     )
+
+pub draft-good : (d : Draft) (room : ℕ) → d .used ≤ room → 4 ≤ d .used → makes (d .kind) (d .rule) ≡ true → (d .kind ≡ 0x30 → d .blocks ≤ 65535)
+    → badDraft d room ≡ false
+draft-good d room inside enough made few =
+    simp (le-ltb room (d .used) inside, le-ltb (d .used) 4 enough, made) (go (eqb (d .kind) 0x30) refl)
+  where
+    go : (t : Bool) → eqb (d .kind) 0x30 ≡ t → (t && ltb 65535 (d .blocks)) ≡ false
+    go true t = le-ltb 65535 (d .blocks) (few (eqb-true (d .kind) 0x30 t))
+    go false t = refl
 
 -- a block that a step takes
 pub block-facts : (d : Draft) (n : ℕ) → badBlock d n ≡ false → (0 < n) × (n < 65536) × (d .kind ≡ 0x30 → d .blocks ≤ 65534)
@@ -145,10 +154,6 @@ unfolding bufAfter
 buf-put s d old at vs e = simp e
 
 -- ---- the bytes of a block
-
-pub length-block : (st : Bool) (e : Entry) → length (blockBytes st e) ≡ stampLength st + 4 + length (e .bytes) + length (e .bytes) % 2
-unfolding blockBytes
-length-block st e = simp (length-append, length-bytesOf, length-replicate)
 
 -- four writes one behind the other are one block
 pub block-put : (st : Bool) (time upper : ℕ) (bytes : List ℕ) (head at : ℕ) (b₀ b₁ b₂ b₃ b₄ : List ℕ) → head ≡ at + stampLength st

@@ -15,35 +15,19 @@ use Rattle.units.proofs.Numbers.{length-bytesOf, num-bytesOf}
 use Rattle.units.proofs.Writes.{length-splice, take-splice}
 use Rattle.units.proofs.Choices.{and-true}
 use Rattle.body.specs.Times.{timeOk, ruleOf}
+use Rattle.body.proofs.Blocks.{length-blockBytes, blocks-snoc, fit-snoc, zero-ok}
 use Rattle.body.specs.Walk.{messageShape, uartShape, openBody, stampLength}
 use Rattle.body.specs.Blocks.{Entry, blockBytes, blocksBytes, Fits, AllFit, BodyOf}
 use Rattle.body.specs.declared.TimeRule.{TimeRule}
-use Rattle.body.specs.declared.TimeRule.the-variants.{Counter, Chapter4, Ieee1588, Extended}
 use Rattle.body.specs.declared.Opened.the-variants.{Shaped}
 use Rattle.builder.specs.Build.{stamped, makes, openStep, openWord, grown, added, addStep, entryOf, closeStep, counterBytes, bufAfter, draftAfter, entriesAfter}
 use Rattle.builder.specs.Run.{Built}
 use Rattle.builder.specs.declared.Draft.{Draft}
 use Rattle.builder.specs.declared.Step.{Step}
 use Rattle.builder.specs.declared.Step.the-variants.{Done, Denied}
-use Rattle.builder.proofs.Drafts.{draft-facts, block-facts, open-done, add-done, close-done, open-denied, add-denied, close-denied, buf-put, length-block}
+use Rattle.builder.proofs.Drafts.{draft-facts, draft-good, block-facts, open-done, add-done, close-done, open-denied, add-denied, close-denied, buf-put}
 
--- ---- blocks and times
-
-blocks-snoc : (st : Bool) (es : List Entry) (e : Entry) → blocksBytes st (es ++ (e ∷ [])) ≡ blocksBytes st es ++ blockBytes st e
-unfolding blocksBytes
-blocks-snoc st [] e = append-nil _
-blocks-snoc st (x ∷ es) e = rw (blocks-snoc st es e, append-assoc)
-
-fit-snoc : (st : Bool) (rule : TimeRule) (es : List Entry) (e : Entry) → AllFit st rule es → Fits st rule e → AllFit st rule (es ++ (e ∷ []))
-fit-snoc st rule [] e all ok = (ok, tt)
-fit-snoc st rule (x ∷ es) e all ok = (all .0, fit-snoc st rule es e (all .1) ok)
-
-zero-ok : (rule : TimeRule) → timeOk rule 0 ≡ true
-unfolding timeOk
-zero-ok Counter = refl
-zero-ok Chapter4 = refl
-zero-ok Ieee1588 = refl
-zero-ok Extended = refl
+-- ---- what is added
 
 -- a time that adding takes
 time-taken : (st : Bool) (rule : TimeRule) (time : ℕ) → time < 2 ^ 64 → (st && not (timeOk rule time)) ≡ false → (not st && not (eqb time 0)) ≡ false
@@ -155,6 +139,7 @@ pub record Grown (buf : List ℕ) (d : Draft) (es : List Entry) : Type 0 where
   pub used-is : d .used ≡ 4 + length (blocksBytes (stamped (d .rule)) es)
   pub room : d .used ≤ length buf
   pub blocks-is : d .kind ≡ 0x30 → d .blocks ≡ length es
+  pub few : d .kind ≡ 0x30 → d .blocks ≤ 65535
   pub word : ℕ
   pub word-short : d .kind ≡ 0x30 → word < 2 ^ 16
   pub word-is : d .kind ≡ 0x50 → word ≡ openWord (d .kind) (d .rule)
@@ -174,6 +159,7 @@ open-grown buf kind rule made long =
       used-is = refl;
       room = omega (arith, length-splice buf 0 w (omega arith));
       blocks-is = λ _. refl;
+      few = λ _. omega arith;
       word = openWord kind rule;
       word-short = λ k. rw k (omega arith);
       word-is = λ _. refl;
@@ -191,7 +177,7 @@ add-grown buf d es e g ok fits few =
     let n = length (e .bytes) in
     let s = stampLength st + 4 + n + n % 2 in
     let w = bytesOf 4 (g .word) in
-    let l : length B ≡ s = length-block st e in
+    let l : length B ≡ s = length-blockBytes st e in
     let f : d .used + length B ≤ length buf = omega arith in
     let t = take-splice buf (d .used) B f in
     let more : blocksBytes st (es ++ (e ∷ [])) ≡ blocksBytes st es ++ B = blocks-snoc st es e in
@@ -200,6 +186,7 @@ add-grown buf d es e g ok fits few =
       used-is = omega (arith, g .used-is, ap length more, length-append (blocksBytes st es) B);
       room = omega (arith, length-splice buf (d .used) B f);
       blocks-is = λ k. omega (arith, g .blocks-is k, few k, length-append es (e ∷ []));
+      few = λ k. omega (arith, few k);
       word = g .word;
       word-short = g .word-short;
       word-is = g .word-is;
@@ -212,9 +199,9 @@ add-grown buf d es e g ok fits few =
 abbrev closedWord : Draft → ℕ → ℕ
 closedWord d w = pick (eqb (d .kind) 0x30) (d .blocks) w
 
-closed-bytes : (buf : List ℕ) (d : Draft) (es : List Entry) (g : Grown buf d es) → (d .kind ≡ 0x30 → d .blocks ≤ 65535)
+closed-bytes : (buf : List ℕ) (d : Draft) (es : List Entry) (g : Grown buf d es)
     → take (d .used) (splice buf 0 (counterBytes d)) ≡ bytesOf 4 (closedWord d (g .word)) ++ blocksBytes (stamped (d .rule)) es
-closed-bytes buf d es g few = go (eqb (d .kind) 0x30) refl
+closed-bytes buf d es g = go (eqb (d .kind) 0x30) refl
   where
     go : (t : Bool) → eqb (d .kind) 0x30 ≡ t → take (d .used) (splice buf 0 (pick t (bytesOf 2 (d .blocks)) []))
         ≡ bytesOf 4 (pick t (d .blocks) (g .word)) ++ blocksBytes (stamped (d .rule)) es
@@ -222,7 +209,7 @@ closed-bytes buf d es g few = go (eqb (d .kind) 0x30) refl
         let k : d .kind ≡ 0x30 = eqb-true (d .kind) 0x30 t in
         front-over buf (bytesOf 4 (g .word)) (blocksBytes (stamped (d .rule)) es) (bytesOf 2 (d .blocks)) (d .used) (g .bytes) (g .room)
         (omega (arith, length-bytesOf 2 (d .blocks), length-bytesOf 4 (g .word)))
-        ∙ ap (λ (l : List ℕ). l ++ blocksBytes (stamped (d .rule)) es) (word-closed (d .blocks) (g .word) (omega (arith, few k)) (g .word-short k))
+        ∙ ap (λ (l : List ℕ). l ++ blocksBytes (stamped (d .rule)) es) (word-closed (d .blocks) (g .word) (omega (arith, g .few k)) (g .word-short k))
     go false t = front-over buf (bytesOf 4 (g .word)) (blocksBytes (stamped (d .rule)) es) [] (d .used) (g .bytes) (g .room) (omega arith)
 
 counter-short : (d : Draft) → length (counterBytes d) ≤ 2
@@ -232,26 +219,27 @@ counter-short d = go (eqb (d .kind) 0x30)
     go true = omega (arith, length-bytesOf 2 (d .blocks))
     go false = omega arith
 
-close-grown : (buf : List ℕ) (d : Draft) (es : List Entry) → Grown buf d es → (d .kind ≡ 0x30 → d .blocks ≤ 65535) → Grown (splice buf 0 (counterBytes d)) d es
-close-grown buf d es g few =
+close-grown : (buf : List ℕ) (d : Draft) (es : List Entry) → Grown buf d es → Grown (splice buf 0 (counterBytes d)) d es
+close-grown buf d es g =
     let fits : 0 + length (counterBytes d) ≤ length buf = omega (arith, counter-short d, g .used-is, g .room) in
     record {
       made = g .made;
       used-is = g .used-is;
       room = rw (length-splice buf 0 (counterBytes d) fits) (g .room);
       blocks-is = g .blocks-is;
+      few = g .few;
       word = closedWord d (g .word);
-      word-short = λ k. rw (eq-eqb (d .kind) 0x30 k) (omega (arith, few k));
+      word-short = λ k. rw (eq-eqb (d .kind) 0x30 k) (omega (arith, g .few k));
       word-is = λ k. rw (ne-eqb (d .kind) 0x30 (λ h. omega arith)) (g .word-is k);
-      bytes = closed-bytes buf d es g few;
+      bytes = closed-bytes buf d es g;
       fit = g .fit;
     }
 
 -- ---- every run of steps
 
--- a state that has its channel word stands for an opened body
+-- a state that has its channel word stands for an opened body, and blocks are added to no other
 abbrev pub Kept : List ℕ → Draft → List Entry → Type 0
-Kept buf d es = 4 ≤ d .used → Grown buf d es
+Kept buf d es = (4 ≤ d .used → Grown buf d es) × (0 < length es → 4 ≤ d .used)
 
 module _ (buf : List ℕ) (d : Draft) (es : List Entry) (kept : Kept buf d es) where
   back : (d′ : Draft) → d′ ≡ d → Kept buf d′ es
@@ -269,7 +257,7 @@ module _ (buf : List ℕ) (d : Draft) (es : List Entry) (kept : Kept buf d es) w
       go (Denied r d′) e = back d′ (open-denied d kind rule (length buf) r d′ e)
       go (Done d′) e =
           let p = open-done d kind rule (length buf) d′ e in
-          λ _. subst (λ (x : Draft). Grown (splice buf 0 vs) x []) (sym (p .2)) (open-grown buf kind rule (p .0) (p .1))
+          ((λ _. subst (λ (x : Draft). Grown (splice buf 0 vs) x []) (sym (p .2)) (open-grown buf kind rule (p .0) (p .1))), λ h. absurd (omega arith))
 
   add-kept : (time upper : ℕ) (bytes : List ℕ) → time < 2 ^ 64 → upper < 2 ^ 16
       → Kept (bufAfter (addStep d (length buf) time (length bytes)) buf (d .used) (blockBytes (stamped (d .rule)) (entryOf time upper bytes)))
@@ -292,7 +280,8 @@ module _ (buf : List ℕ) (d : Draft) (es : List Entry) (kept : Kept buf d es) w
           let n = block-facts d (length bytes) (p .1) in
           let t = time-taken (stamped (d .rule)) (ruleOf (d .rule)) time wide (p .2) (p .3) in
           let ok = entry-fits (stamped (d .rule)) (ruleOf (d .rule)) time upper bytes (n .0) (n .1) half (t .0) (t .1) in
-          λ _. subst (λ (x : Draft). Grown (splice buf (d .used) vs) x (es ++ (entry ∷ []))) (sym (p .5)) (add-grown buf d es entry (kept (f .1)) ok (p .4) (n .2))
+          let g = add-grown buf d es entry (kept .0 (f .1)) ok (p .4) (n .2) in
+          ((λ _. subst (λ (x : Draft). Grown (splice buf (d .used) vs) x (es ++ (entry ∷ []))) (sym (p .5)) g), λ _. rw (p .5) (omega (arith, g .used-is)))
 
   close-kept : Kept (bufAfter (closeStep d (length buf)) buf 0 (counterBytes d)) (draftAfter (closeStep d (length buf))) es
   unfolding bufAfter
@@ -303,10 +292,10 @@ module _ (buf : List ℕ) (d : Draft) (es : List Entry) (kept : Kept buf d es) w
       go (Done d′) e =
           let p = close-done d (length buf) d′ e in
           let f = draft-facts d (length buf) (p .0) in
-          λ _. subst (λ (x : Draft). Grown (splice buf 0 (counterBytes d)) x es) (sym (p .2)) (close-grown buf d es (kept (f .1)) (f .3))
+          ((λ _. subst (λ (x : Draft). Grown (splice buf 0 (counterBytes d)) x es) (sym (p .2)) (close-grown buf d es (kept .0 (f .1)))), λ h. rw (p .2) (kept .1 h))
 
 pub built-kept : {buf : List ℕ} {d : Draft} {es : List Entry} → Built buf d es → Kept buf d es
-built-kept (Built.fresh buf) = λ used. absurd (omega arith)
+built-kept (Built.fresh buf) = ((λ used. absurd (omega arith)), λ h. absurd (omega arith))
 built-kept (Built.opened {buf} {d} {es} kind rule b) = open-kept buf d es (built-kept b) kind rule
 built-kept (Built.added {buf} {d} {es} time upper bytes wide half b) = add-kept buf d es (built-kept b) time upper bytes wide half
 built-kept (Built.closed {buf} {d} {es} b) = close-kept buf d es (built-kept b)
@@ -331,9 +320,9 @@ made-uart kind rule made k = eqb-true kind 0x50 (and-true (eqb kind 0x50) (ltb r
 uart-word : (kind rule : ℕ) → kind ≡ 0x50 → openWord kind rule ≡ pick (stamped rule) (2 ^ 31) 0
 uart-word kind rule k = rw k
 
-grown-body : (buf : List ℕ) (d : Draft) (es : List Entry) (rule : TimeRule) → Grown buf d es → (d .kind ≡ 0x30 → d .blocks ≤ 65535) → (d .used ≡ 4 → ⊥)
+grown-body : (buf : List ℕ) (d : Draft) (es : List Entry) (rule : TimeRule) → Grown buf d es → (d .used ≡ 4 → ⊥)
     → (stamped (d .rule) ≡ true → rule ≡ ruleOf (d .rule)) → BodyOf (d .kind) rule (take (d .used) (splice buf 0 (counterBytes d))) es
-grown-body buf d es rule g few more same = go (eqb (d .kind) 0x30) refl
+grown-body buf d es rule g more same = go (eqb (d .kind) 0x30) refl
   where
     st : Bool
     st = stamped (d .rule)
@@ -345,7 +334,7 @@ grown-body buf d es rule g few more same = go (eqb (d .kind) 0x30) refl
     word = closedWord d (g .word)
 
     bytes : bs ≡ bytesOf 4 word ++ blocksBytes st es
-    bytes = closed-bytes buf d es g few
+    bytes = closed-bytes buf d es g
 
     enough : 0 < length es
     enough = some-blocks st es (λ h. more (g .used-is ∙ h))
@@ -358,7 +347,7 @@ grown-body buf d es rule g few more same = go (eqb (d .kind) 0x30) refl
         let k : d .kind ≡ 0x30 = eqb-true (d .kind) 0x30 t in
         let counter : word ≡ d .blocks = rw t in
         subst (λ (n : ℕ). BodyOf n rule bs es) (sym k)
-        (message-body rule bs es word st bytes enough all (made-message (d .kind) (d .rule) (g .made) k) (counter ∙ g .blocks-is k) (omega (arith, counter, few k)))
+        (message-body rule bs es word st bytes enough all (made-message (d .kind) (d .rule) (g .made) k) (counter ∙ g .blocks-is k) (omega (arith, counter, g .few k)))
     go false t =
         let k : d .kind ≡ 0x50 = made-uart (d .kind) (d .rule) (g .made) t in
         let kept : word ≡ g .word = rw t in
@@ -367,10 +356,25 @@ grown-body buf d es rule g few more same = go (eqb (d .kind) 0x30) refl
 
 -- what is built step by step and closed last is the body of the blocks added, under its time rule, or any where no time is stored
 pub built-body : {buf : List ℕ} {d : Draft} {es : List Entry} (d′ : Draft) (rule : TimeRule) → Built buf d es → closeStep d (length buf) ≡ Done d′
-    → (stamped (d .rule) ≡ true → rule ≡ ruleOf (d .rule))
-    → BodyOf (d .kind) rule (take (d .used) (bufAfter (closeStep d (length buf)) buf 0 (counterBytes d))) es
+    → (stamped (d′ .rule) ≡ true → rule ≡ ruleOf (d′ .rule))
+    → BodyOf (d′ .kind) rule (take (d′ .used) (bufAfter (closeStep d (length buf)) buf 0 (counterBytes d))) es
 built-body {buf} {d} {es} d′ rule b e same =
     let p = close-done d (length buf) d′ e in
     let f = draft-facts d (length buf) (p .0) in
-    subst (λ (l : List ℕ). BodyOf (d .kind) rule (take (d .used) l) es) (buf-put (closeStep d (length buf)) d′ buf 0 (counterBytes d) e)
-    (grown-body buf d es rule (built-kept b (f .1)) (f .3) (p .1) same)
+    let g = grown-body buf d es rule (built-kept b .0 (f .1)) (p .1) (rw (p .2) at same) in
+    rw (p .2, ← buf-put (closeStep d (length buf)) d′ buf 0 (counterBytes d) e) g
+
+-- ---- closing
+
+some-bytes : (st : Bool) (e : Entry) (es : List Entry) → 0 < length (blocksBytes st (e ∷ es))
+unfolding blocksBytes
+some-bytes st e es = omega (arith, length-append (blockBytes st e) (blocksBytes st es), length-blockBytes st e)
+
+-- once a block is added, closing is done
+pub built-closes : {buf : List ℕ} {d : Draft} {e : Entry} {es : List Entry} → Built buf d (e ∷ es) → closeStep d (length buf) ≡ Done d
+unfolding closeStep
+built-closes {buf} {d} {e} {es} b =
+    let k = built-kept b in
+    let g = k .0 (k .1 (omega arith)) in
+    let more : d .used ≡ 4 → ⊥ = λ z. omega (arith, z, g .used-is, some-bytes (stamped (d .rule)) e es) in
+    rw (draft-good d (length buf) (g .room) (omega (arith, g .used-is)) (g .made) (g .few), ne-eqb (d .used) 4 more)

@@ -7,50 +7,14 @@ use mathlib.Core.Path.{_≡_, refl, sym, ap, _∙_}
 use borrow.Author.Needs.{needs}
 use Rattle.body.proofs.list_messages.Statement.{statement}
 use Rattle.body.proofs.list_messages.Tie as tie
-use Rattle.body.proofs.list_messages.Reads as reads
-use Rattle.body.proofs.list_messages.Lts as lts
-use Rattle.body.proofs.fault.Reads as fault-reads
-use Rattle.body.proofs.list.list_shape.Reads as list-shape-reads
-use Rattle.body.proofs.opening.open_body.Reads as open-body-reads
 
--- src/lib.rt:119:11
-open-body-requires : tie.Need-open-body-requires
-open-body-requires c κs = search needs
-
--- src/lib.rt:120:28
-enum-told : tie.Need-enum-told
-enum-told c = search needs
-
--- src/lib.rt:121:24
-enum-known-shape : tie.Need-enum-known-shape
-enum-known-shape c = search needs
-
--- src/lib.rt:121:34
 list-shape-requires : tie.Need-list-shape-requires
 list-shape-requires c κs = (open-long _ _ _ _ (sym (c .before .before .before .before .before .open-body .ensures) ∙ c .before .before .before .shape .given .1), search needs)
 
--- src/lib.rt:122:43
-enum-told-2 : tie.Need-enum-told-2
-enum-told-2 c = search needs
-
--- src/lib.rt:122:43
-fault-requires : tie.Need-fault-requires
-fault-requires c κs = search needs
-
--- src/lib.rt:106:1
 returns : tie.Need-returns
 unfolding listAfter listOf checkBody filled tab
 returns c = (list-room _ _ _ 0 (simp (sym (c .before .before .open-body .ensures) ∙ c .enum-told .given .1)) (omega arith), (refl, refl))
 
--- src/lib.rt:106:1
-same-length : tie.Need-same-length
-same-length c = search needs
-
--- src/lib.rt:106:1
-same-length-2 : tie.Need-same-length-2
-same-length-2 c = search needs
-
--- src/lib.rt:106:1
 returns-2 : tie.Need-returns-2
 unfolding listOf checkBody
 returns-2 c =
@@ -61,7 +25,6 @@ returns-2 c =
     let m = messages-shaped _ _ _ _ e in
     (s .0 ∙ simp e, (rw m (s .1 .0), rw m (s .1 .1)))
 
--- src/lib.rt:106:1
 returns-3 : tie.Need-returns-3
 unfolding listAfter listOf checkBody
 returns-3 c =
@@ -72,14 +35,14 @@ pub list-messages-spec : {M : Type 1} → statement M
 list-messages-spec =
     tie.close
     (tie.spec
-    open-body-requires
-    enum-told
-    enum-known-shape
+    (λ c κs. search needs)
+    (λ c. search needs)
+    (λ c. search needs)
     list-shape-requires
-    enum-told-2
-    fault-requires
+    (λ c. search needs)
+    (λ c κs. search needs)
     returns
-    same-length
-    same-length-2
+    (λ c. search needs)
+    (λ c. search needs)
     returns-2
     returns-3)

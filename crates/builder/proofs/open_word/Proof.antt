@@ -3,14 +3,10 @@ use mathlib.Core.Path.{_≡_, refl, sym, ap, _∙_}
 use borrow.Author.Needs.{needs}
 use Rattle.builder.proofs.open_word.Statement.{statement}
 use Rattle.builder.proofs.open_word.Tie as tie
-use Rattle.builder.proofs.open_word.Reads as reads
-use Rattle.builder.proofs.open_word.Lts as lts
 
--- src/lib.rt:130:1
 returns : tie.Need-returns
 returns c = chosen _ _ refl (c .if1 .taken)
 
--- src/lib.rt:130:1
 returns-2 : tie.Need-returns-2
 returns-2 c = skipped _ _ _ refl (c .if1 .left) refl
 

@@ -6,28 +6,18 @@ use mathlib.Core.Path.{_≡_, refl, sym, ap, _∙_}
 use borrow.Author.Needs.{needs}
 use Rattle.builder.proofs.put_stamp.Statement.{statement}
 use Rattle.builder.proofs.put_stamp.Tie as tie
-use Rattle.builder.proofs.put_stamp.Reads as reads
-use Rattle.builder.proofs.put_stamp.Lts as lts
-use Rattle.units.proofs.put64.Reads as put64-reads
 
--- src/lib.rt:204:9
 put64-requires : tie.Need-put64-requires
 unfolding stampLength
 put64-requires c κs = let e : stampLength (c .before .before .before .args .stamped) ≡ 8 = simp (c .before .if1 .taken) in omega arith
 
--- src/lib.rt:199:1
-same-length : tie.Need-same-length
-same-length c = search needs
-
--- src/lib.rt:199:1
 returns : tie.Need-returns
 unfolding stampLength
 returns c = c .before .before .put64 .ensures ∙ simp (c .before .before .before .before .if1 .taken)
 
--- src/lib.rt:199:1
 returns-2 : tie.Need-returns-2
 unfolding stampLength bytesOf
 returns-2 c = rw (c .if1 .left) (sym (splice-none (c .before .before .args .buf .now) (c .before .before .args .at)))
 
 pub put-stamp-spec : {M : Type 1} → statement M
-put-stamp-spec = tie.close (tie.spec put64-requires same-length returns returns-2)
+put-stamp-spec = tie.close (tie.spec put64-requires (λ c. search needs) returns returns-2)

@@ -5,20 +5,7 @@ use mathlib.Core.Path.{_≡_, refl, sym, ap, _∙_}
 use borrow.Author.Needs.{needs}
 use Rattle.body.proofs.list.list_shape.Statement.{statement}
 use Rattle.body.proofs.list.list_shape.Tie as tie
-use Rattle.body.proofs.list.list_shape.Reads as reads
-use Rattle.body.proofs.list.list_shape.Lts as lts
-use Rattle.body.proofs.list.fill_lists.Reads as fill-lists-reads
-use Rattle.body.proofs.walk.count_blocks.Reads as count-blocks-reads
 
--- src/list.rt:104:11
-count-blocks-requires : tie.Need-count-blocks-requires
-count-blocks-requires c κs = search needs
-
--- src/list.rt:105:26
-enum-known-n : tie.Need-enum-known-n
-enum-known-n c = search needs
-
--- src/list.rt:107:17
 returns : tie.Need-returns
 unfolding listAfter
 returns c =
@@ -26,7 +13,6 @@ returns c =
     let e = sym (after-n .before .before .count-blocks .ensures) ∙ after-n .n .given .1 in
     (list-short _ _ _ _ e (omega arith), (refl, refl))
 
--- src/list.rt:110:17
 returns-2 : tie.Need-returns-2
 unfolding listAfter
 returns-2 c =
@@ -34,26 +20,12 @@ returns-2 c =
     let e = sym (after-n .before .before .count-blocks .ensures) ∙ after-n .n .given .1 in
     (list-short _ _ _ _ e (omega arith), (refl, refl))
 
--- src/list.rt:112:13
 fill-lists-requires : tie.Need-fill-lists-requires
 fill-lists-requires c κs =
     let after-n = c .before .before .before .before .before in
     let e = sym (after-n .before .before .count-blocks .ensures) ∙ after-n .n .given .1 in
     ((search needs, e), (omega arith, omega arith, omega arith))
 
--- src/list.rt:115:25
-enum-known-f : tie.Need-enum-known-f
-enum-known-f c = search needs
-
--- src/list.rt:92:1
-same-length : tie.Need-same-length
-same-length c = search needs
-
--- src/list.rt:92:1
-same-length-2 : tie.Need-same-length-2
-same-length-2 c = search needs
-
--- src/list.rt:92:1
 returns-3 : tie.Need-returns-3
 unfolding listAfter
 returns-3 c =
@@ -62,7 +34,6 @@ returns-3 c =
     let e = sym (after-n .before .before .count-blocks .ensures) ∙ after-n .n .given .1 in
     (list-room _ _ _ _ e (omega arith), (filled .fill-lists .ensures .0, filled .fill-lists .ensures .1))
 
--- src/list.rt:92:1
 returns-4 : tie.Need-returns-4
 unfolding listAfter
 returns-4 c = (list-faulty _ _ _ _ (sym (c .before .before .before .count-blocks .ensures) ∙ c .before .f .given .1), (refl, refl))
@@ -71,13 +42,13 @@ pub list-shape-spec : {M : Type 1} → statement M
 list-shape-spec =
     tie.close
     (tie.spec
-    count-blocks-requires
-    enum-known-n
+    (λ c κs. search needs)
+    (λ c. search needs)
     returns
     returns-2
     fill-lists-requires
-    enum-known-f
-    same-length
-    same-length-2
+    (λ c. search needs)
+    (λ c. search needs)
+    (λ c. search needs)
     returns-3
     returns-4)

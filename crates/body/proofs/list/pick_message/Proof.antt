@@ -4,30 +4,12 @@ use mathlib.Core.Path.{_≡_, refl, sym, ap, _∙_}
 use borrow.Author.Needs.{needs}
 use Rattle.body.proofs.list.pick_message.Statement.{statement}
 use Rattle.body.proofs.list.pick_message.Tie as tie
-use Rattle.body.proofs.list.pick_message.Reads as reads
-use Rattle.body.proofs.list.pick_message.Lts as lts
-use Rattle.body.proofs.list.seek.Reads as seek-reads
-use Rattle.body.proofs.walk.count_blocks.Reads as count-blocks-reads
 
--- src/list.rt:48:11
-count-blocks-requires : tie.Need-count-blocks-requires
-count-blocks-requires c κs = search needs
-
--- src/list.rt:49:26
-enum-known-n : tie.Need-enum-known-n
-enum-known-n c = search needs
-
--- src/list.rt:51:29
 seek-requires : tie.Need-seek-requires
 seek-requires c κs =
     let after-n = c .before .before in
     (search needs, sym (after-n .before .before .count-blocks .ensures) ∙ after-n .n .given .1, c .if1 .taken)
 
--- src/list.rt:56:25
-enum-known-f : tie.Need-enum-known-f
-enum-known-f c = search needs
-
--- src/list.rt:44:1
 returns : tie.Need-returns
 unfolding pickCounted
 returns c =
@@ -35,7 +17,6 @@ returns c =
     let e = sym (after-n .before .before .count-blocks .ensures) ∙ after-n .n .given .1 in
     simp (e, lt-ltb _ _ (c .before .if1 .taken), c .seek .ensures)
 
--- src/list.rt:44:1
 returns-2 : tie.Need-returns-2
 unfolding pickCounted
 returns-2 c =
@@ -43,7 +24,6 @@ returns-2 c =
     let e = sym (after-n .before .before .count-blocks .ensures) ∙ after-n .n .given .1 in
     simp (e, le-ltb _ _ (c .if1 .left))
 
--- src/list.rt:44:1
 returns-3 : tie.Need-returns-3
 unfolding pickCounted
 returns-3 c = simp (sym (c .before .before .before .count-blocks .ensures) ∙ c .before .f .given .1)
@@ -52,10 +32,10 @@ pub pick-message-spec : {M : Type 1} → statement M
 pick-message-spec =
     tie.close
     (tie.spec
-    count-blocks-requires
-    enum-known-n
+    (λ c κs. search needs)
+    (λ c. search needs)
     seek-requires
-    enum-known-f
+    (λ c. search needs)
     returns
     returns-2
     returns-3)

@@ -6,9 +6,6 @@ use mathlib.Core.Path.{_≡_, refl, sym, ap, _∙_}
 use borrow.Author.Needs.{needs}
 use Rattle.body.proofs.list.seek.Statement.{statement}
 use Rattle.body.proofs.list.seek.Tie as tie
-use Rattle.body.proofs.list.seek.Reads as reads
-use Rattle.body.proofs.list.seek.Lts as lts
-use Rattle.body.proofs.walk.next_block.Reads as next-block-reads
 
 abbrev Inv-loop : tie.InvT-loop
 Inv-loop body shape n k i₀ at₀ i at = (i ≤ k) × Reading shape body n i at
@@ -16,19 +13,9 @@ Inv-loop body shape n k i₀ at₀ i at = (i ≤ k) × Reading shape body n i at
 abbrev μ-loop : tie.MeasureT-loop
 μ-loop body shape n k i₀ at₀ i at = k - i
 
--- src/list.rt:22:5
 loop-holds : tie.Need-loop-holds Inv-loop μ-loop
 loop-holds c = (omega arith, reading-first _ _ _ (c .before .pre .0) (c .before .pre .1))
 
--- src/list.rt:23:15
-next-block-requires : tie.Need-next-block-requires Inv-loop μ-loop
-next-block-requires c κs = search needs
-
--- src/list.rt:24:26
-enum-known-m : tie.Need-enum-known-m Inv-loop μ-loop
-enum-known-m c = search needs
-
--- src/list.rt:26:21
 returns : tie.Need-returns Inv-loop μ-loop
 returns c =
     let after-m = c .before .before in
@@ -37,15 +24,6 @@ returns c =
     walking-message _ _ _ _ (g .0 .0) (g .0 .1 .0) (after-block .before .loop .inv .1 .0) (sym (after-block .next-block .ensures) ∙ g .1)
     ∙ ap (messageOf _ _) (c .if1 .taken)
 
--- src/list.rt:29:17
-add-i : tie.Need-add-i Inv-loop μ-loop
-add-i c = search needs
-
--- src/list.rt:22:5
-loop-less : tie.Need-loop-less Inv-loop μ-loop
-loop-less c = search needs
-
--- src/list.rt:22:5
 loop-again : tie.Need-loop-again Inv-loop μ-loop
 loop-again c =
     let after-m = c .before .before in
@@ -53,11 +31,6 @@ loop-again c =
     let g = after-m .m .given in
     (omega arith, reading-next _ _ _ _ _ (after-block .before .loop .inv .1) (omega arith) (g .0 .0) (g .0 .1 .0) (sym (after-block .next-block .ensures) ∙ g .1))
 
--- src/list.rt:32:17
-enum-told : tie.Need-enum-told Inv-loop μ-loop
-enum-told c = search needs
-
--- src/list.rt:32:17
 returns-2 : tie.Need-returns-2 Inv-loop μ-loop
 returns-2 c =
     let after-block = c .before .before in
@@ -70,11 +43,11 @@ seek-spec =
     Inv-loop
     μ-loop
     loop-holds
-    next-block-requires
-    enum-known-m
+    (λ c κs. search needs)
+    (λ c. search needs)
     returns
-    add-i
-    loop-less
+    (λ c. search needs)
+    (λ c. search needs)
     loop-again
-    enum-told
+    (λ c. search needs)
     returns-2)

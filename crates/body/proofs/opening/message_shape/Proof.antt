@@ -6,28 +6,18 @@ use borrow.Author.Tests.{le-leb, lt-leb, lt-ltb, le-ltb, eq-eqb, ne-eqb, not-tru
 use borrow.Author.Needs.{needs}
 use Rattle.body.proofs.opening.message_shape.Statement.{statement}
 use Rattle.body.proofs.opening.message_shape.Tie as tie
-use Rattle.body.proofs.opening.message_shape.Reads as reads
-use Rattle.body.proofs.opening.message_shape.Lts as lts
-use Rattle.body.proofs.opening.counter_ok.Reads as counter-ok-reads
 
--- src/opening.rt:27:28
-counter-ok-requires : tie.Need-counter-ok-requires
-counter-ok-requires c κs = search needs
-
--- src/opening.rt:28:9
 returns : tie.Need-returns
 unfolding messageShape
 returns c = simp (sym (c .before .counter-ok .ensures), not-true (ltb (c .before .before .args .word) 262144 && c .before .counter-ok .result) (c .if1 .taken))
 
--- src/opening.rt:24:1
 returns-2 : tie.Need-returns-2
 unfolding messageShape
 returns-2 c = simp (sym (c .before .before .counter-ok .ensures), not-false (ltb (c .before .before .before .args .word) 262144 && c .before .before .counter-ok .result) (c .before .if1 .left), lt-ltb _ _ (c .if2 .taken))
 
--- src/opening.rt:24:1
 returns-3 : tie.Need-returns-3
 unfolding messageShape
 returns-3 c = simp (sym (c .before .before .counter-ok .ensures), not-false (ltb (c .before .before .before .args .word) 262144 && c .before .before .counter-ok .result) (c .before .if1 .left), le-ltb _ _ (c .if2 .left))
 
 pub message-shape-spec : {M : Type 1} → statement M
-message-shape-spec = tie.close (tie.spec counter-ok-requires returns returns-2 returns-3)
+message-shape-spec = tie.close (tie.spec (λ c κs. search needs) returns returns-2 returns-3)

@@ -5,40 +5,15 @@ use borrow.Author.Tests.{le-leb, lt-leb, lt-ltb, le-ltb, eq-eqb, ne-eqb, not-tru
 use borrow.Author.Needs.{needs}
 use Rattle.body.proofs.opening.open_body.Statement.{statement}
 use Rattle.body.proofs.opening.open_body.Tie as tie
-use Rattle.body.proofs.opening.open_body.Reads as reads
-use Rattle.body.proofs.opening.open_body.Lts as lts
-use Rattle.body.proofs.opening.message_shape.Reads as message-shape-reads
-use Rattle.body.proofs.opening.opens_kind.Reads as opens-kind-reads
-use Rattle.body.proofs.opening.uart_shape.Reads as uart-shape-reads
-use Rattle.units.proofs.read32.Reads as read32-reads
 
--- src/opening.rt:59:9
-opens-kind-requires : tie.Need-opens-kind-requires
-opens-kind-requires c κs = search needs
-
--- src/opening.rt:60:9
 returns : tie.Need-returns
 unfolding openBody
 returns c = simp (sym (c .before .opens-kind .ensures), c .if1 .taken)
 
--- src/opening.rt:63:9
 returns-2 : tie.Need-returns-2
 unfolding openBody
 returns-2 c = simp (sym (c .before .before .opens-kind .ensures), c .before .if1 .left, lt-ltb _ _ (c .if2 .taken))
 
--- src/opening.rt:65:9
-read32-requires : tie.Need-read32-requires
-read32-requires c κs = search needs
-
--- src/opening.rt:67:9
-message-shape-requires : tie.Need-message-shape-requires
-message-shape-requires c κs = search needs
-
--- src/opening.rt:69:9
-uart-shape-requires : tie.Need-uart-shape-requires
-uart-shape-requires c κs = search needs
-
--- src/opening.rt:56:1
 returns-3 : tie.Need-returns-3
 unfolding openBody
 returns-3 c =
@@ -59,11 +34,11 @@ pub open-body-spec : {M : Type 1} → statement M
 open-body-spec =
     tie.close
     (tie.spec
-    opens-kind-requires
+    (λ c κs. search needs)
     returns
     returns-2
-    read32-requires
-    message-shape-requires
-    uart-shape-requires
+    (λ c κs. search needs)
+    (λ c κs. search needs)
+    (λ c κs. search needs)
     returns-3
     returns-4)

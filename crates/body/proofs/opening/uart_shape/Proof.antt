@@ -3,15 +3,11 @@ use borrow.Author.Tests.{le-leb, lt-leb, lt-ltb, le-ltb, eq-eqb, ne-eqb, not-tru
 use borrow.Author.Needs.{needs}
 use Rattle.body.proofs.opening.uart_shape.Statement.{statement}
 use Rattle.body.proofs.opening.uart_shape.Tie as tie
-use Rattle.body.proofs.opening.uart_shape.Reads as reads
-use Rattle.body.proofs.opening.uart_shape.Lts as lts
 
--- src/opening.rt:45:9
 returns : tie.Need-returns
 unfolding uartShape
 returns c = simp (eq-eqb _ _ (c .if1 .taken))
 
--- src/opening.rt:40:1
 returns-2 : tie.Need-returns-2
 unfolding uartShape
 returns-2 c = simp (ne-eqb _ _ (c .if1 .left))

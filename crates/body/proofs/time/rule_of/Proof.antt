@@ -3,25 +3,19 @@ use borrow.Author.Tests.{le-leb, lt-leb, lt-ltb, le-ltb, eq-eqb, ne-eqb, not-tru
 use borrow.Author.Needs.{needs}
 use Rattle.body.proofs.time.rule_of.Statement.{statement}
 use Rattle.body.proofs.time.rule_of.Tie as tie
-use Rattle.body.proofs.time.rule_of.Reads as reads
-use Rattle.body.proofs.time.rule_of.Lts as lts
 
--- src/time.rt:23:9
 returns : tie.Need-returns
 unfolding ruleOf
 returns c = simp (eq-eqb _ _ (c .if1 .taken))
 
--- src/time.rt:26:9
 returns-2 : tie.Need-returns-2
 unfolding ruleOf
 returns-2 c = simp (ne-eqb _ _ (c .before .if1 .left), eq-eqb _ _ (c .if2 .taken))
 
--- src/time.rt:29:9
 returns-3 : tie.Need-returns-3
 unfolding ruleOf
 returns-3 c = simp (ne-eqb _ _ (c .before .before .if1 .left), ne-eqb _ _ (c .before .if2 .left), eq-eqb _ _ (c .if3 .taken))
 
--- src/time.rt:19:1
 returns-4 : tie.Need-returns-4
 unfolding ruleOf
 returns-4 c = simp (ne-eqb _ _ (c .before .before .if1 .left), ne-eqb _ _ (c .before .if2 .left), ne-eqb _ _ (c .if3 .left))

@@ -8,11 +8,6 @@ use mathlib.Core.Path.{_≡_, refl, sym, ap, _∙_}
 use borrow.Author.Needs.{needs}
 use Rattle.body.proofs.walk.count_blocks.Statement.{statement}
 use Rattle.body.proofs.walk.count_blocks.Tie as tie
-use Rattle.body.proofs.walk.count_blocks.Reads as reads
-use Rattle.body.proofs.walk.count_blocks.Lts as lts
-use Rattle.body.proofs.fault.Reads as fault-reads
-use Rattle.body.proofs.walk.next_block.Reads as next-block-reads
-use Rattle.body.proofs.walk.stop_at.Reads as stop-at-reads
 
 abbrev Inv-loop : tie.InvT-loop
 Inv-loop body shape k₀ at₀ k at = Counting shape body k at
@@ -20,27 +15,9 @@ Inv-loop body shape k₀ at₀ k at = Counting shape body k at
 abbrev μ-loop : tie.MeasureT-loop
 μ-loop body shape k₀ at₀ k at = length body - at
 
--- src/walk.rt:100:5
 loop-holds : tie.Need-loop-holds Inv-loop μ-loop
 loop-holds c = counting-first _ _ (c .before .pre)
 
--- src/walk.rt:100:12
-stop-at-requires : tie.Need-stop-at-requires Inv-loop μ-loop
-stop-at-requires c κs = search needs
-
--- src/walk.rt:101:15
-next-block-requires : tie.Need-next-block-requires Inv-loop μ-loop
-next-block-requires c κs = search needs
-
--- src/walk.rt:102:29
-enum-known-next : tie.Need-enum-known-next Inv-loop μ-loop
-enum-known-next c = search needs
-
--- src/walk.rt:104:17
-add-k : tie.Need-add-k Inv-loop μ-loop
-add-k c = search needs
-
--- src/walk.rt:100:5
 loop-less : tie.Need-loop-less Inv-loop μ-loop
 loop-less c =
     let after-block = c .before .before .before in
@@ -48,7 +25,6 @@ loop-less c =
     let n = found-next _ _ _ (g .0 .0) (g .0 .1 .0) (sym (after-block .next-block .ensures) ∙ g .1) in
     omega arith
 
--- src/walk.rt:100:5
 loop-again : tie.Need-loop-again Inv-loop μ-loop
 loop-again c =
     let after-block = c .before .before .before in
@@ -58,11 +34,6 @@ loop-again c =
     counting-next _ _ _ _ (at-stop .before .loop .inv) (g .0 .0) (g .0 .1 .0) (sym (at-stop .stop-at .ensures) ∙ not-true _ (at-then1 .if1 .taken))
     (sym (after-block .next-block .ensures) ∙ g .1)
 
--- src/walk.rt:106:27
-enum-known-f : tie.Need-enum-known-f Inv-loop μ-loop
-enum-known-f c = search needs
-
--- src/walk.rt:107:17
 returns : tie.Need-returns Inv-loop μ-loop
 returns c =
     let after-block = c .before .before .before in
@@ -72,17 +43,11 @@ returns c =
     sym (counting-broken _ _ _ _ (at-stop .before .loop .inv) (g .0 .0) (sym (at-stop .stop-at .ensures) ∙ not-true _ (at-then1 .if1 .taken))
     (sym (after-block .next-block .ensures) ∙ g .1))
 
--- src/walk.rt:114:25
-fault-requires : tie.Need-fault-requires Inv-loop μ-loop
-fault-requires c κs = search needs
-
--- src/walk.rt:94:1
 returns-2 : tie.Need-returns-2 Inv-loop μ-loop
 returns-2 c =
     let at-stop = c .before .before in
     sym (counting-stop _ _ _ _ (at-stop .before .loop .inv) (sym (at-stop .stop-at .ensures) ∙ not-false _ (c .before .if1 .left)) ∙ ending-exact _ _ _ (c .if2 .taken))
 
--- src/walk.rt:94:1
 returns-3 : tie.Need-returns-3 Inv-loop μ-loop
 returns-3 c =
     let at-stop = c .before .before .before in
@@ -95,14 +60,14 @@ count-blocks-spec =
     Inv-loop
     μ-loop
     loop-holds
-    stop-at-requires
-    next-block-requires
-    enum-known-next
-    add-k
+    (λ c κs. search needs)
+    (λ c κs. search needs)
+    (λ c. search needs)
+    (λ c. search needs)
     loop-less
     loop-again
-    enum-known-f
+    (λ c. search needs)
     returns
-    fault-requires
+    (λ c κs. search needs)
     returns-2
     returns-3)

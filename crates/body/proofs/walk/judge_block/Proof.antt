@@ -9,72 +9,19 @@ use borrow.Author.Tests.{le-leb, lt-leb, lt-ltb, le-ltb, eq-eqb, ne-eqb, not-tru
 use borrow.Author.Needs.{needs}
 use Rattle.body.proofs.walk.judge_block.Statement.{statement}
 use Rattle.body.proofs.walk.judge_block.Tie as tie
-use Rattle.body.proofs.walk.judge_block.Reads as reads
-use Rattle.body.proofs.walk.judge_block.Lts as lts
-use Rattle.body.proofs.fault.Reads as fault-reads
-use Rattle.body.proofs.time.time_ok.Reads as time-ok-reads
-use Rattle.units.proofs.all_zero.Reads as all-zero-reads
 
--- src/walk.rt:51:15
-add-pad : tie.Need-add-pad
-add-pad c = search needs
-
--- src/walk.rt:52:16
-add-next : tie.Need-add-next
-add-next c = search needs
-
--- src/walk.rt:54:30
-fault-requires : tie.Need-fault-requires
-fault-requires c κs = search needs
-
--- src/walk.rt:54:9
 returns : tie.Need-returns
 unfolding judge
 returns c = simp (c .fault .ensures, lt-ltb _ _ (c .before .if1 .taken))
 
--- src/walk.rt:56:9
-time-ok-requires : tie.Need-time-ok-requires
-time-ok-requires c κs = search needs
-
--- src/walk.rt:57:30
-fault-requires-2 : tie.Need-fault-requires-2
-fault-requires-2 c κs = search needs
-
--- src/walk.rt:57:9
 returns-2 : tie.Need-returns-2
 unfolding judge
 returns-2 c = simp (c .fault2 .ensures, le-ltb _ _ (c .before .before .before .if1 .left), sym (c .before .before .time-ok .ensures), c .before .if2 .taken)
 
--- src/walk.rt:60:30
-fault-requires-3 : tie.Need-fault-requires-3
-fault-requires-3 c κs = search needs
-
--- src/walk.rt:60:9
 returns-3 : tie.Need-returns-3
 unfolding judge
 returns-3 c = simp (c .fault3 .ensures, le-ltb _ _ (c .before .before .before .before .before .if1 .left), sym (c .before .before .before .before .time-ok .ensures), c .before .before .before .if2 .left, eq-eqb _ _ (c .before .if3 .taken))
 
--- src/walk.rt:62:18
-sub-all-zero : tie.Need-sub-all-zero
-sub-all-zero c = search needs
-
--- src/walk.rt:62:18
-part-all-zero-start : tie.Need-part-all-zero-start
-part-all-zero-start c = search needs
-
--- src/walk.rt:62:18
-part-all-zero-end : tie.Need-part-all-zero-end
-part-all-zero-end c = search needs
-
--- src/walk.rt:62:9
-all-zero-requires : tie.Need-all-zero-requires
-all-zero-requires c κs = search needs
-
--- src/walk.rt:63:30
-fault-requires-4 : tie.Need-fault-requires-4
-fault-requires-4 c κs = search needs
-
--- src/walk.rt:63:9
 returns-4 : tie.Need-returns-4
 unfolding judge
 returns-4 c =
@@ -90,7 +37,6 @@ returns-4 c =
     let t : timeOk (a .rule) (m .time) ≡ true = sym (at-time .time-ok .ensures) ∙ not-false _ (at-else2 .if2 .left) in
     simp (c .fault4 .ensures, le-ltb _ _ (at-else1 .if1 .left), t, ne-eqb _ _ (at-else3 .if3 .left), pad)
 
--- src/walk.rt:47:1
 returns-5 : tie.Need-returns-5
 unfolding judge
 returns-5 c =
@@ -110,19 +56,19 @@ pub judge-block-spec : {M : Type 1} → statement M
 judge-block-spec =
     tie.close
     (tie.spec
-    add-pad
-    add-next
-    fault-requires
+    (λ c. search needs)
+    (λ c. search needs)
+    (λ c κs. search needs)
     returns
-    time-ok-requires
-    fault-requires-2
+    (λ c κs. search needs)
+    (λ c κs. search needs)
     returns-2
-    fault-requires-3
+    (λ c κs. search needs)
     returns-3
-    sub-all-zero
-    part-all-zero-start
-    part-all-zero-end
-    all-zero-requires
-    fault-requires-4
+    (λ c. search needs)
+    (λ c. search needs)
+    (λ c. search needs)
+    (λ c κs. search needs)
+    (λ c κs. search needs)
     returns-4
     returns-5)

@@ -2,15 +2,11 @@ use Rattle.body.specs.Walk.{stampLength}
 use borrow.Author.Needs.{needs}
 use Rattle.body.proofs.walk.stamp_length.Statement.{statement}
 use Rattle.body.proofs.walk.stamp_length.Tie as tie
-use Rattle.body.proofs.walk.stamp_length.Reads as reads
-use Rattle.body.proofs.walk.stamp_length.Lts as lts
 
--- src/walk.rt:16:1
 returns : tie.Need-returns
 unfolding stampLength
 returns c = search needs
 
--- src/walk.rt:16:1
 returns-2 : tie.Need-returns-2
 unfolding stampLength
 returns-2 c = search needs

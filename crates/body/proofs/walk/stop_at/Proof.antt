@@ -2,15 +2,11 @@ use Rattle.body.specs.Walk.{stopAt}
 use borrow.Author.Needs.{needs}
 use Rattle.body.proofs.walk.stop_at.Statement.{statement}
 use Rattle.body.proofs.walk.stop_at.Tie as tie
-use Rattle.body.proofs.walk.stop_at.Reads as reads
-use Rattle.body.proofs.walk.stop_at.Lts as lts
 
--- src/walk.rt:88:9
 returns : tie.Need-returns
 unfolding stopAt
 returns c = simp (c .before .if1 .taken)
 
--- src/walk.rt:84:1
 returns-2 : tie.Need-returns-2
 unfolding stopAt
 returns-2 c = simp (c .if1 .left)
