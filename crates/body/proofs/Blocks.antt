@@ -2,17 +2,16 @@
 use mathlib.Core.Path.{_≡_, refl}
 use mathlib.Core.List.{List, [], _∷_, _++_, append-assoc, append-nil}
 use mathlib.Core.Bool.{Bool, true}
-use Prim.Native.Nat.{_+_, _%_}
 use lib.ListN.{length, length-append, length-replicate}
 use Rattle.units.proofs.Numbers.{length-bytesOf}
 use Rattle.body.specs.Times.{timeOk}
-use Rattle.body.specs.Walk.{stampLength}
+use Rattle.body.specs.Walk.{blockSize}
 use Rattle.body.specs.Blocks.{Entry, blockBytes, Fits, AllFit, blocksBytes}
 use Rattle.body.specs.declared.TimeRule.{TimeRule}
 use Rattle.body.specs.declared.TimeRule.the-variants.{Counter, Chapter4, Ieee1588, Extended}
 
 pub length-blockBytes : (stamped : Bool) (e : Entry)
-    → length (blockBytes stamped e) ≡ stampLength stamped + 4 + length (e .bytes) + length (e .bytes) % 2
+    → length (blockBytes stamped e) ≡ blockSize stamped (length (e .bytes))
 unfolding blockBytes
 length-blockBytes stamped e = simp (length-append, length-bytesOf, length-replicate)
 

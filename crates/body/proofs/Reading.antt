@@ -8,10 +8,10 @@ use native.Mathlib.Numerals.{add-one}
 use lib.ListN.{length, drop, getD, set, length-append, length-drop}
 use lib.Seq.{drop-cons, set-at}
 use lib.Dec.{leb, eqb}
-use borrow.Author.Tests.{eqb-true, le-leb, lt-leb}
+use borrow.Author.Tests.{eqb-true, le-leb, lt-leb, lt-ltb, le-ltb}
 use Rattle.units.specs.Choice.{pick}
-use Rattle.body.specs.Walk.{fault, openBody, headAt, blockAt, spot, stopAt, ending, walkFrom, walk}
-use Rattle.body.specs.Answers.{messageOf, messageOpened, messageIn, tab, filled, listCounted}
+use Rattle.body.specs.Walk.{fault, openBody, stampLength, headAt, blockEnd, blockAt, spot, stopAt, ending, walkFrom, walk}
+use Rattle.body.specs.Answers.{checkBody, messageOf, messageOpened, messageIn, pickCounted, messageAt, tab, filled, listCounted, listOf}
 use Rattle.body.specs.declared.Refusal.{Refusal}
 use Rattle.body.specs.declared.Shape.{Shape}
 use Rattle.body.specs.declared.TimeRule.{TimeRule}
@@ -22,6 +22,7 @@ use Rattle.body.specs.declared.Block.{Block}
 use Rattle.body.specs.declared.Block.the-variants.{Found, Broken}
 use Rattle.body.specs.declared.Checked.{Checked}
 use Rattle.body.specs.declared.Checked.the-variants.{Counted, Faulty}
+use Rattle.body.specs.declared.Picked.the-variants.{One, Missing}
 use Rattle.body.specs.declared.Listed.{Listed}
 use Rattle.body.specs.declared.Listed.the-variants.{Count, Unlisted, NoRoom}
 use Rattle.body.proofs.Walking.{stands, Walking, walking-first, walking-next, walk-stop, walk-broken, walk-found}
@@ -81,13 +82,38 @@ pub walking-message : (sh : Shape) (bs : List ℕ) (k at : ℕ) (m : Message) (n
 unfolding messageOf
 walking-message sh bs k at m next w e = rw (← w .0, e)
 
--- its bytes lie within the body
-pub found-bytes : (sh : Shape) (bs : List ℕ) (at : ℕ) (m : Message) (next : ℕ) → blockAt sh bs at ≡ Found m next
-    → (m .start + m .length ≤ length bs) × (0 < m .length) × (m .length < 2 ^ 16)
-unfolding headAt
-found-bytes sh bs at m next e =
-    let s = stands sh bs at m next e in
-    (omega (arith, s .next-is, s .fits), s .some, omega (arith, ap (λ (x : Message). x .length) (s .says)))
+-- while messages are left, what the head at `at` says is the k-th message, and the next block stands behind it
+pub record Ahead (sh : Shape) (bs : List ℕ) (n k at : ℕ) (m : Message) : Type 0 where
+  pub message : m ≡ messageOf sh bs k
+  pub next : Reading sh bs n (k + 1) (blockEnd m)
+  pub fits : blockEnd m ≤ length bs
+  pub some : 0 < m .length
+  pub short : m .length < 2 ^ 16
+
+module _ (sh : Shape) (bs : List ℕ) (n k at : ℕ) (now : Reading sh bs n k at) (more : k < n) where
+  found-head : (m : Message) × (next : ℕ) × (blockAt sh bs at ≡ Found m next)
+  found-head = go (blockAt sh bs at) refl
+    where
+      go : (b : Block) → blockAt sh bs at ≡ b → (m : Message) × (next : ℕ) × (blockAt sh bs at ≡ Found m next)
+      go (Found m next) e = (m, next, e)
+      go (Broken r) e = absurd (reading-whole sh bs n k at now more r e)
+
+  pub reading-fits : at + stampLength (sh .stamped) + 4 ≤ length bs
+  reading-fits = let f = found-head in stands sh bs at (f .0) (f .1) (f .2) .head
+
+  pub reading-ahead : (m : Message) → m ≡ headAt (sh .stamped) bs at → Ahead sh bs n k at m
+  unfolding headAt
+  reading-ahead m is =
+      let f = found-head in
+      let s = stands sh bs at (f .0) (f .1) (f .2) in
+      let same : f .0 ≡ m = s .says ∙ sym is in
+      record {
+        message = rw (← same) (walking-message sh bs k at (f .0) (f .1) (now .0) (f .2));
+        next = rw (← same, ← s .next-is) (reading-next sh bs n k at now more (f .0) (f .1) (f .2));
+        fits = rw (← same, ← s .next-is) (s .fits);
+        some = rw (← same) (s .some);
+        short = omega (arith, ap (λ (x : Message). x .length) is);
+      }
 
 -- the messages of a body whose shape is known
 pub message-shaped : (kind : ℕ) (rule : TimeRule) (bs : List ℕ) (sh : Shape) (k : ℕ) → openBody kind rule bs ≡ Shaped sh → messageIn kind rule bs k ≡ messageOf sh bs k
@@ -129,3 +155,22 @@ module _ (r q : ℕ) (w : Checked) where
   pub list-faulty : (f : Refusal) → w ≡ Faulty f → Unlisted f ≡ listCounted r q w
   unfolding listCounted
   list-faulty f e = simp e
+
+-- ---- what the three calls say of a body that has n messages
+
+module _ (kind : ℕ) (rule : TimeRule) (bs : List ℕ) (n : ℕ) (has : checkBody kind rule bs ≡ Counted n) where
+  pub message-one : (k : ℕ) → k < n → messageAt kind rule bs k ≡ One (messageIn kind rule bs k)
+  unfolding messageAt pickCounted
+  message-one k h = simp (has, lt-ltb k n h)
+
+  pub message-missing : (k : ℕ) → n ≤ k → messageAt kind rule bs k ≡ Missing
+  unfolding messageAt pickCounted
+  message-missing k h = simp (has, le-ltb k n h)
+
+  pub lists-all : (len₁ len₂ : ℕ) → n ≤ min len₁ len₂ → listOf kind rule bs len₁ len₂ ≡ Count n
+  unfolding listOf
+  lists-all len₁ len₂ h = sym (list-room len₁ len₂ (checkBody kind rule bs) n has h)
+
+  pub lists-none : (len₁ len₂ : ℕ) → min len₁ len₂ < n → listOf kind rule bs len₁ len₂ ≡ NoRoom n
+  unfolding listOf
+  lists-none len₁ len₂ h = sym (list-short len₁ len₂ (checkBody kind rule bs) n has h)

@@ -7,10 +7,10 @@ use Prim.Native.Nat.{ℕ, zero, suc, _+_, _%_, _/_, _^_, _≤_, _<_}
 use native.Mathlib.Omega.{arith}
 use native.Mathlib.Numerals.{add-one}
 use native.Mathlib.Nat.{add-zero, zero-add}
-use lib.ListN.{length, take, replicate, length-append, length-replicate}
+use lib.ListN.{length, take, getD, replicate, length-append, length-replicate}
 use lib.Seq.{append-snoc, take-add, take-length, length-take-le}
 use lib.Dec.{ltb, leb, eqb}
-use borrow.Author.Tests.{ltb-true, leb-true, leb-false, eqb-true, le-leb, lt-leb, lt-ltb}
+use borrow.Author.Tests.{ltb-true, leb-true, leb-false, le-leb, lt-leb, lt-ltb, ne-eqb}
 use Rattle.units.specs.Units.{Bytes, part, field, num, bytesOf, zeros}
 use Rattle.units.specs.Choice.{pick}
 use Rattle.units.proofs.Numbers.{length-bytesOf, num-bytesOf, zeros-replicate, zeros-are}
@@ -18,7 +18,7 @@ use Rattle.units.proofs.Parts.{length-part, part-at, field-lt, bytesOf-field}
 use Rattle.units.proofs.Choices.{picked, passed, and-true}
 use Rattle.body.specs.Walk.{opens, counterOk, messageShape, uartShape, openBody, stampLength, headAt, blockAt, spot, stopAt, walk}
 use Rattle.body.specs.Answers.{checkOpened, checkBody, messageOf, messageIn, tab}
-use Rattle.body.specs.Blocks.{Entry, blockBytes, Fits, AllFit, blocksBytes, entryAt, entriesIn, BodyOf}
+use Rattle.body.specs.Blocks.{Entry, noEntry, blockBytes, Fits, AllFit, blocksBytes, messageOn, entryAt, entriesIn, BodyOf}
 use Rattle.body.specs.declared.TimeRule.{TimeRule}
 use Rattle.body.specs.declared.Shape.{Shape}
 use Rattle.body.specs.declared.Opened.{Opened}
@@ -32,14 +32,10 @@ use Rattle.body.proofs.Walking.{Stands, stands, stands-found, found-nex
 use Rattle.body.proofs.Reading.{Reading, reading-first, reading-end, reading-block, reading-step, walking-message, message-shaped, length-tab, tab-ext}
 
 -- the k-th block of a body of this shape
-abbrev entryOf : Shape → List ℕ → ℕ → Entry
-entryOf sh bs k = entryAt bs (messageOf sh bs k)
+abbrev entryOn : Shape → List ℕ → ℕ → Entry
+entryOn sh bs k = entryAt bs (messageOf sh bs k)
 
 -- ---- from blocks to a body that is accepted
-
--- the message that a block at `at` reads as
-abbrev pub messageOn : Bool → ℕ → Entry → Message
-messageOn stamped at e = record { time = e .time; id = e .id; start = at + stampLength stamped + 4; length = length (e .bytes) }
 
 module _ (sh : Shape) (bs front rest : List ℕ) (e : Entry) (is : bs ≡ front ++ (blockBytes (sh .stamped) e ++ rest)) where
   abbrev stampBytes : List ℕ
@@ -91,7 +87,7 @@ module _ (sh : Shape) (bs front rest : List ℕ) (e : Entry) (is : bs ≡ front 
         pad = rw pZ (zeros-replicate (n % 2));
       }
 
-shift : (f g : ℕ → ℕ) (k n : ℕ) → f (k + 0) ≡ g 0 → ((i : ℕ) → i < n → f (k + 1 + i) ≡ g (suc i)) → (i : ℕ) → i < suc n → f (k + i) ≡ g i
+shift : {A : Type 0} (f g : ℕ → A) (k n : ℕ) → f (k + 0) ≡ g 0 → ((i : ℕ) → i < n → f (k + 1 + i) ≡ g (suc i)) → (i : ℕ) → i < suc n → f (k + i) ≡ g i
 shift f g k n first more zero h = first
 shift f g k n first more (suc i) h = let e : k + 1 + i ≡ k + suc i = omega arith in subst (λ (j : ℕ). f j ≡ g (suc i)) e (more i (omega arith))
 
@@ -101,8 +97,8 @@ module _ (sh : Shape) (bs : List ℕ) (n : ℕ) (stop : stopAt sh (length bs) n 
   walk-blocks : (es : List Entry) (front : List ℕ) (k : ℕ) → k + length es ≡ n → bs ≡ front ++ blocksBytes (sh .stamped) es
       → AllFit (sh .stamped) (sh .rule) es → Counting sh bs k (length front)
       → (walk sh bs ≡ Counted n)
-      × (tab n (entryOf sh bs) ≡ tab k (entryOf sh bs) ++ es)
-      × ((i : ℕ) → i < length es → messageOf sh bs (k + i) .start ≡ length front + length (blocksBytes (sh .stamped) (take i es)) + stampLength (sh .stamped) + 4)
+      × (tab n (entryOn sh bs) ≡ tab k (entryOn sh bs) ++ es)
+      × ((i : ℕ) → i < length es → messageOf sh bs (k + i) ≡ messageOn (sh .stamped) (length front + length (blocksBytes (sh .stamped) (take i es))) (getD es i noEntry))
   unfolding blocksBytes tab
   walk-blocks [] front k ends is fit now =
       let e : k ≡ n = omega arith in
@@ -122,12 +118,16 @@ module _ (sh : Shape) (bs : List ℕ) (n : ℕ) (stop : stopAt sh (length bs) n 
       let then = counting-next sh bs k (length front) now m next (on k (length front) (omega arith) (omega (arith, b .0, b .1))) f in
       let rest = walk-blocks es (front ++ block) (k + 1) (omega arith) (is ∙ simp append-assoc) (fit .1) then in
       let there : m ≡ messageOf sh bs k = walking-message sh bs k (length front) m next (now .0) f in
-      let here : entryOf sh bs k ≡ e = rw (← there, bytes-there sh bs front (blocksBytes (sh .stamped) es) e is) in
-      let place : ℕ → ℕ = λ i. length front + length (blocksBytes (sh .stamped) (take i (e ∷ es))) + stampLength (sh .stamped) + 4 in (
+      let here : entryOn sh bs k ≡ e = rw (← there, bytes-there sh bs front (blocksBytes (sh .stamped) es) e is) in
+      let place : ℕ → Message =
+      λ i. messageOn (sh .stamped) (length front + length (blocksBytes (sh .stamped) (take i (e ∷ es)))) (getD (e ∷ es) i noEntry) in (
         rest .0,
-        rest .1 ∙ rw (add-one, tab, here) (append-snoc (tab k (entryOf sh bs)) e es),
-        shift (λ j. messageOf sh bs j .start) place k (length es) (rw (add-zero, ← there) (omega arith))
-            (λ i h. rest .2 i h ∙ omega (arith, length-append front block, length-append block (blocksBytes (sh .stamped) (take i es)))),
+        rest .1 ∙ rw (add-one, tab, here) (append-snoc (tab k (entryOn sh bs)) e es),
+        shift (messageOf sh bs) place k (length es) (rw (add-zero, ← there) (ap (λ (at : ℕ). messageOn (sh .stamped) at e) (sym (add-zero (length front)))))
+            (λ i h.
+            let l : length (front ++ block) + length (blocksBytes (sh .stamped) (take i es)) ≡ length front + length (block ++ blocksBytes (sh .stamped) (take i es)) =
+            omega (arith, length-append front block, length-append block (blocksBytes (sh .stamped) (take i es))) in
+            rest .2 i h ∙ ap (λ (at : ℕ). messageOn (sh .stamped) at (getD es i noEntry)) l),
       )
 
 -- the walk stops behind the last of n blocks, and not before
@@ -200,8 +200,8 @@ module _ (sh : Shape) (bs : List ℕ) (at : ℕ) (m : Message) (next : ℕ) (raw
 
 -- the walk has come to `at` by k blocks, and no further than it may
 pub record Come (sh : Shape) (bs : List ℕ) (k at : ℕ) : Type 0 where
-  pub is : take at bs ≡ take 4 bs ++ blocksBytes (sh .stamped) (tab k (entryOf sh bs))
-  pub fit : AllFit (sh .stamped) (sh .rule) (tab k (entryOf sh bs))
+  pub is : take at bs ≡ take 4 bs ++ blocksBytes (sh .stamped) (tab k (entryOn sh bs))
+  pub fit : AllFit (sh .stamped) (sh .rule) (tab k (entryOn sh bs))
   pub within : sh .counted ≡ true → k ≤ sh .count
 
 come-first : (sh : Shape) (bs : List ℕ) → Come sh bs 0 4
@@ -212,14 +212,14 @@ come-next : (sh : Shape) (bs : List ℕ) (k at : ℕ) (m : Message) (next : ℕ)
     → blockAt sh bs at ≡ Found m next → Come sh bs k at → Come sh bs (k + 1) next
 unfolding tab stopAt
 come-next sh bs k at m next raw there on found come =
-    let e : entryOf sh bs k ≡ entryAt bs m = ap (entryAt bs) (sym (walking-message sh bs k at m next there found)) in
+    let e : entryOn sh bs k ≡ entryAt bs m = ap (entryAt bs) (sym (walking-message sh bs k at m next there found)) in
     record {
       is =
-          rw (add-one, tab, blocks-snoc (sh .stamped) (tab k (entryOf sh bs)) (entryOf sh bs k), e)
+          rw (add-one, tab, blocks-snoc (sh .stamped) (tab k (entryOn sh bs)) (entryOn sh bs k), e)
           (found-is sh bs at m next raw found ∙ ap (λ (l : List ℕ). l ++ blockBytes (sh .stamped) (entryAt bs m)) (come .is)
-          ∙ append-assoc (take 4 bs) (blocksBytes (sh .stamped) (tab k (entryOf sh bs))) (blockBytes (sh .stamped) (entryAt bs m)));
+          ∙ append-assoc (take 4 bs) (blocksBytes (sh .stamped) (tab k (entryOn sh bs))) (blockBytes (sh .stamped) (entryAt bs m)));
       fit =
-          rw (add-one, tab, e) (fit-snoc (sh .stamped) (sh .rule) (tab k (entryOf sh bs)) (entryAt bs m) (come .fit) (found-fits sh bs at m next raw found));
+          rw (add-one, tab, e) (fit-snoc (sh .stamped) (sh .rule) (tab k (entryOn sh bs)) (entryAt bs m) (come .fit) (found-fits sh bs at m next raw found));
       within = λ c. omega (arith, leb-false (sh .count) k (rw c at on));
     }
 
@@ -245,12 +245,12 @@ pub record Holds (sh : Shape) (bs : List ℕ) (es : List Entry) : Type 0 where
   pub fit : AllFit (sh .stamped) (sh .rule) es
 
 module _ (sh : Shape) (bs : List ℕ) (n : ℕ) (raw : Bytes bs) (least : sh .counted ≡ true → 0 < sh .count) where
-  holds-last : (k at : ℕ) → Reading sh bs n k at → Come sh bs k at → stopAt sh (length bs) k at ≡ true → Holds sh bs (tab n (entryOf sh bs))
+  holds-last : (k at : ℕ) → Reading sh bs n k at → Come sh bs k at → stopAt sh (length bs) k at ≡ true → Holds sh bs (tab n (entryOn sh bs))
   holds-last k at now come s =
       let p = reading-end sh bs n k at now s in
       let e : k ≡ n = p .0 in
       let says = stop-says sh (length bs) k at s (λ c. (least c, come .within c)) in
-      let l : length (tab n (entryOf sh bs)) ≡ n = length-tab n (entryOf sh bs) in
+      let l : length (tab n (entryOn sh bs)) ≡ n = length-tab n (entryOn sh bs) in
       record {
         counted = λ c. l ∙ sym e ∙ says .0 c;
         some = omega (arith, says .1);
@@ -258,15 +258,15 @@ module _ (sh : Shape) (bs : List ℕ) (n : ℕ) (raw : Bytes bs) (least : sh .co
         fit = rw (← e) (come .fit);
       }
 
-  holds-from : (fuel k at : ℕ) → length bs < fuel + at → Reading sh bs n k at → Come sh bs k at → Holds sh bs (tab n (entryOf sh bs))
+  holds-from : (fuel k at : ℕ) → length bs < fuel + at → Reading sh bs n k at → Come sh bs k at → Holds sh bs (tab n (entryOn sh bs))
   holds-from zero k at short now come = absurd (omega arith)
   holds-from (suc fuel) k at short now come =
       go (stopAt sh (length bs) k at) refl (blockAt sh bs at) refl
       (λ next h r c. holds-from fuel (k + 1) next (omega arith) r c)
     where
       go : (b : Bool) → stopAt sh (length bs) k at ≡ b → (x : Block) → blockAt sh bs at ≡ x
-          → ((next : ℕ) → at < next → Reading sh bs n (k + 1) next → Come sh bs (k + 1) next → Holds sh bs (tab n (entryOf sh bs)))
-          → Holds sh bs (tab n (entryOf sh bs))
+          → ((next : ℕ) → at < next → Reading sh bs n (k + 1) next → Come sh bs (k + 1) next → Holds sh bs (tab n (entryOn sh bs)))
+          → Holds sh bs (tab n (entryOn sh bs))
       go true s x f rest = holds-last k at now come s
       go false s (Broken r) f rest = absurd (reading-block sh bs n k at now r s f)
       go false s (Found m next) f rest =
@@ -282,20 +282,18 @@ pub record Known (rule : TimeRule) (sh : Shape) : Type 0 where
 known-message : (rule : TimeRule) (word : ℕ) (sh : Shape) → messageShape rule word ≡ Shaped sh → Known rule sh
 unfolding messageShape
 known-message rule word sh e =
-    let as-is : Shape = record { stamped = true; counted = true; count = pick (ltb word (2 ^ 16)) word 1; rule = rule } in
+    let as-is : Shape = record { stamped = true; counted = true; count = pick (eqb (word / 2 ^ 16) 0) (word % 2 ^ 16) 1; rule = rule } in
     let p =
     picked (ltb word (2 ^ 18) && counterOk (word / 2 ^ 16) (word % 2 ^ 16)) (Shaped as-is) Wrong (Shaped sh)
     (λ q. let z : _≡_ {A = ℕ} 0 1 = cc in omega arith) e in
     let is : as-is ≡ sh = cc (p .1) in
-    record { rule-is = rw (← is) refl; least = λ c. rw (← is) (above word (p .0)) }
+    let q = and-true (ltb word (2 ^ 18)) (counterOk (word / 2 ^ 16) (word % 2 ^ 16)) (p .0) in
+    record { rule-is = rw (← is) refl; least = λ c. rw (← is) (least (word / 2 ^ 16) (word % 2 ^ 16) (q .1)) }
   where
-    either : (t : Bool) (w : ℕ) → 0 < pick t (suc w) 1
-    either true w = omega arith
-    either false w = omega arith
-
-    above : (w : ℕ) → (ltb w (2 ^ 18) && counterOk (w / 2 ^ 16) (w % 2 ^ 16)) ≡ true → 0 < pick (ltb w (2 ^ 16)) w 1
-    above zero t = let z : _≡_ {A = ℕ} 0 1 = cc in absurd (omega arith)
-    above (suc w) t = either (ltb (suc w) (2 ^ 16)) w
+    least : (t counter : ℕ) → counterOk t counter ≡ true → 0 < pick (eqb t 0) counter 1
+    least zero zero e = let z : _≡_ {A = ℕ} 0 1 = cc in absurd (omega arith)
+    least zero (suc counter) e = omega arith
+    least (suc t) counter e = rw (ne-eqb (suc t) 0 (λ z. omega arith)) (omega arith)
 
 known-uart : (rule : TimeRule) (word : ℕ) (sh : Shape) → uartShape rule word ≡ Shaped sh → Known rule sh
 unfolding uartShape
@@ -336,15 +334,15 @@ open-not-carried kind rule bs o e =
 
     go : (t : Bool) (w : ℕ) → pick t (messageShape rule w) (uartShape rule w) ≡ Carried → ⊥
     go true w e =
-        never (ltb w (2 ^ 18) && counterOk (w / 2 ^ 16) (w % 2 ^ 16)) (record { stamped = true; counted = true; count = pick (ltb w (2 ^ 16)) w 1; rule = rule }) e
+        never (ltb w (2 ^ 18) && counterOk (w / 2 ^ 16) (w % 2 ^ 16)) (record { stamped = true; counted = true; count = pick (eqb (w / 2 ^ 16) 0) (w % 2 ^ 16) 1; rule = rule }) e
     go false w e = never (eqb (w % 2 ^ 31) 0) (record { stamped = leb (2 ^ 31) w; counted = false; count = 0; rule = rule }) e
 
 -- ---- the theorems
 
 entries-shaped : (kind : ℕ) (rule : TimeRule) (bs : List ℕ) (sh : Shape) (n : ℕ) → openBody kind rule bs ≡ Shaped sh
-    → entriesIn kind rule bs n ≡ tab n (entryOf sh bs)
+    → entriesIn kind rule bs n ≡ tab n (entryOn sh bs)
 unfolding entriesIn
-entries-shaped kind rule bs sh n o = tab-ext n _ (entryOf sh bs) (λ k h. ap (entryAt bs) (message-shaped kind rule bs sh k o))
+entries-shaped kind rule bs sh n o = tab-ext n _ (entryOn sh bs) (λ k h. ap (entryAt bs) (message-shaped kind rule bs sh k o))
 
 check-shaped : (kind : ℕ) (rule : TimeRule) (bs : List ℕ) (sh : Shape) → openBody kind rule bs ≡ Shaped sh → checkBody kind rule bs ≡ walk sh bs
 unfolding checkBody
@@ -353,8 +351,9 @@ check-shaped kind rule bs sh o = simp o
 -- the walk over a body that is its channel word and these blocks
 blocks-walked : (kind : ℕ) (rule : TimeRule) (bs : List ℕ) (es : List Entry) (b : BodyOf kind rule bs es)
     → (walk (b .shape) bs ≡ Counted (length es))
-    × (tab (length es) (entryOf (b .shape) bs) ≡ es)
-    × ((i : ℕ) → i < length es → messageOf (b .shape) bs (0 + i) .start ≡ 4 + length (blocksBytes (b .shape .stamped) (take i es)) + stampLength (b .shape .stamped) + 4)
+    × (tab (length es) (entryOn (b .shape) bs) ≡ es)
+    × ((i : ℕ) → i < length es
+    → messageOf (b .shape) bs (0 + i) ≡ messageOn (b .shape .stamped) (4 + length (blocksBytes (b .shape .stamped) (take i es))) (getD es i noEntry))
 unfolding tab
 blocks-walked kind rule bs es b =
     let sh = b .shape in
@@ -373,12 +372,10 @@ body-of-blocks kind rule bs es b =
     let w = blocks-walked kind rule bs es b in
     (check-shaped kind rule bs (b .shape) (b .opened) ∙ w .0, entries-shaped kind rule bs (b .shape) (length es) (b .opened) ∙ w .1)
 
--- and each where it stands: behind the channel word, the blocks before it, its stamp and its ID word
-pub block-places : (kind : ℕ) (rule : TimeRule) (bs : List ℕ) (es : List Entry) (b : BodyOf kind rule bs es) (k : ℕ) → k < length es
-    → messageIn kind rule bs k .start ≡ 4 + length (blocksBytes (b .shape .stamped) (take k es)) + stampLength (b .shape .stamped) + 4
-block-places kind rule bs es b k h =
-    ap (λ (m : Message). m .start) (message-shaped kind rule bs (b .shape) k (b .opened))
-    ∙ rw zero-add at (blocks-walked kind rule bs es b .2 k h)
+-- and each where it stands, with its length: behind the channel word and the blocks before it
+pub body-messages : (kind : ℕ) (rule : TimeRule) (bs : List ℕ) (es : List Entry) (b : BodyOf kind rule bs es) (k : ℕ) → k < length es
+    → messageIn kind rule bs k ≡ messageOn (b .shape .stamped) (4 + length (blocksBytes (b .shape .stamped) (take k es))) (getD es k noEntry)
+body-messages kind rule bs es b k h = message-shaped kind rule bs (b .shape) k (b .opened) ∙ rw zero-add at (blocks-walked kind rule bs es b .2 k h)
 
 -- an accepted body is exactly its channel word followed by the blocks of the messages reported: nothing invented, nothing left out
 pub body-is-blocks : (kind : ℕ) (rule : TimeRule) (bs : List ℕ) (n : ℕ) → Bytes bs → opens kind ≡ true → checkBody kind rule bs ≡ Counted n
@@ -395,7 +392,7 @@ body-is-blocks kind rule bs n raw o e = go (openBody kind rule bs) refl e
         let h =
         holds-from sh bs n raw (k .least) (length bs) 0 4 (omega arith) (reading-first sh bs n (open-long kind rule bs sh q) e) (come-first sh bs) in
         let s = entries-shaped kind rule bs sh n q in (
-          ap length s ∙ length-tab n (entryOf sh bs),
+          ap length s ∙ length-tab n (entryOn sh bs),
           rw s
               (record {
                 shape = sh;
@@ -403,7 +400,7 @@ body-is-blocks kind rule bs n raw o e = go (openBody kind rule bs) refl e
                 counted = h .counted;
                 some = h .some;
                 is = h .is;
-                fit = subst (λ (r : TimeRule). AllFit (sh .stamped) r (tab n (entryOf sh bs))) (k .rule-is) (h .fit);
+                fit = subst (λ (r : TimeRule). AllFit (sh .stamped) r (tab n (entryOn sh bs))) (k .rule-is) (h .fit);
               }),
         )
 

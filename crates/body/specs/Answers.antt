@@ -70,11 +70,11 @@ filled n f old = tab n f ++ drop n old
 
 -- all messages into two lists of these lengths, where they are not more than the shorter holds
 unfoldable pub listCounted : ℕ → ℕ → Checked → Listed
-listCounted r q (Counted n) = pick (leb n (min r q)) (Count n) (NoRoom n)
-listCounted r q (Faulty f) = Unlisted f
+listCounted len₁ len₂ (Counted n) = pick (leb n (min len₁ len₂)) (Count n) (NoRoom n)
+listCounted len₁ len₂ (Faulty f) = Unlisted f
 
 unfoldable pub listOf : ℕ → TimeRule → List ℕ → ℕ → ℕ → Listed
-listOf kind rule bs r q = listCounted r q (checkBody kind rule bs)
+listOf kind rule bs len₁ len₂ = listCounted len₁ len₂ (checkBody kind rule bs)
 
 -- the start of each message, counted from `base` bytes ahead of the body, and its length
 abbrev pub startsOf : ℕ → (ℕ → Message) → ℕ → ℕ

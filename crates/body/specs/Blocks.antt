@@ -2,7 +2,7 @@
 use mathlib.Core.List.{List, [], _∷_, _++_}
 use mathlib.Core.Path.{_≡_}
 use mathlib.Core.Bool.{Bool, true}
-use Prim.Native.Nat.{ℕ, _%_, _^_, _<_}
+use Prim.Native.Nat.{ℕ, _+_, _%_, _^_, _<_}
 use lib.ListN.{length, take, replicate}
 use Rattle.units.specs.Units.{part, bytesOf}
 use Rattle.body.specs.Times.{timeOk}
@@ -18,6 +18,9 @@ pub record Entry : Type 0 where
   pub time : ℕ
   pub id : ℕ
   pub bytes : List ℕ
+
+abbrev pub noEntry : Entry
+noEntry = record { time = 0; id = 0; bytes = [] }
 
 -- a block: a time stamp of 8 bytes or none, an ID word of 4, the n bytes, then one zero pad byte if n is odd
 unfoldable pub blockBytes : Bool → Entry → List ℕ
@@ -40,6 +43,10 @@ AllFit stamped rule (e ∷ es) = Fits stamped rule e × AllFit stamped rule es
 unfoldable pub blocksBytes : Bool → List Entry → List ℕ
 blocksBytes stamped [] = []
 blocksBytes stamped (e ∷ es) = blockBytes stamped e ++ blocksBytes stamped es
+
+-- the message that a block at `at` is reported as
+abbrev pub messageOn : Bool → ℕ → Entry → Message
+messageOn stamped at e = record { time = e .time; id = e .id; start = at + stampLength stamped + 4; length = length (e .bytes) }
 
 -- what a message reports, its bytes taken out of the body
 abbrev pub entryAt : List ℕ → Message → Entry

@@ -41,7 +41,7 @@ counterOk t counter = (eqb t 0 && ltb 0 counter) || (eqb t 1 && eqb counter 1) |
 unfoldable pub messageShape : TimeRule → ℕ → Opened
 messageShape rule word =
     pick (ltb word (2 ^ 18) && counterOk (word / 2 ^ 16) (word % 2 ^ 16))
-    (Shaped (record { stamped = true; counted = true; count = pick (ltb word (2 ^ 16)) word 1; rule = rule }))
+    (Shaped (record { stamped = true; counted = true; count = pick (eqb (word / 2 ^ 16) 0) (word % 2 ^ 16) 1; rule = rule }))
     Wrong
 
 -- 0x50: bits 30-0 are zero, a time stamp if bit 31 is set; one or more blocks, to the end of the body
@@ -64,6 +64,10 @@ openBody kind rule bs =
 unfoldable pub stampLength : Bool → ℕ
 stampLength stamped = pick stamped 8 0
 
+-- the size of a block: its time stamp, its ID word of 4 bytes, its n bytes, and one pad byte if n is odd
+abbrev pub blockSize : Bool → ℕ → ℕ
+blockSize stamped n = stampLength stamped + 4 + n + n % 2
+
 -- what the head of a block at `at` says: time (0 if none is stored), ID word, and its n bytes; n is bits 15-0 of the ID word
 unfoldable pub headAt : Bool → List ℕ → ℕ → Message
 headAt stamped bs at =
@@ -78,7 +82,7 @@ headAt stamped bs at =
 abbrev pub blockEnd : Message → ℕ
 blockEnd m = m .start + m .length + m .length % 2
 
--- a block at `at` whose head is whole: cut short, time, length zero, pad
+-- a block at `at` whose head is whole: cut short, time (0 where none is stored, which is in form under every rule), length zero, pad
 unfoldable pub judge : TimeRule → List ℕ → ℕ → Message → Block
 judge rule bs at m =
     pick (ltb (length bs) (blockEnd m)) (Broken (fault at))

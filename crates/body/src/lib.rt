@@ -31,7 +31,8 @@ pub struct Refusal {
     pub room: usize,
 }
 
-// What the channel word says of the blocks behind it.
+// What the channel word says of the blocks behind it: whether each has a time stamp, whether there are `count` of them
+// (or one or more, to the end of the body), and the rule of their times.
 pub struct Shape {
     pub stamped: bool,
     pub counted: bool,
@@ -66,14 +67,14 @@ pub enum Checked {
     Faulty(Refusal),
 }
 
-// One message, the body's refusal, or no message of that number.
+// One message, the body's refusal, or no message of that number (17).
 pub enum Picked {
     One(Message),
     Unread(Refusal),
     Missing,
 }
 
-// The number of messages listed, the body's refusal, or the number that there is no room for.
+// The number of messages listed, the body's refusal, or the number that there is no room for (16).
 pub enum Listed {
     Count(usize),
     Unlisted(Refusal),

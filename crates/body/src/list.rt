@@ -4,41 +4,27 @@ ghost use Prim.Native.Nat.{_+_, _≤_, _<_, _^_};
 ghost use lib.ListN.{length};
 ghost use Rattle.body.specs.Walk.{walk};
 ghost use Rattle.body.specs.Answers.{messageOf, pickCounted, filled, listCounted, startsOf, lengthsOf, listAfter};
-use crate::Block;
 use crate::Checked;
 use crate::Listed;
 use crate::Message;
 use crate::Picked;
 use crate::Shape;
 use crate::walk::count_blocks;
-use crate::walk::next_block;
+use crate::walk::head_at;
 
-// The k-th message of a body that has n.
+// The k-th message of a body that has n. All its blocks are known to be whole, so their heads tell the way.
 fn seek(body: &[u8], shape: Shape, n: usize, k: usize) -> Message
     requires { ⌜ (4 ≤ length (now body)) × (walk shape (now body) ≡ Checked.Counted n) × (k < n) ⌝ }
     ensures { λ r. ⌜ r ≡ messageOf shape (now (body .entry)) k ⌝ }
 {
     let mut i: usize = 0;
     let mut at: usize = 4;
-    loop {
-        match next_block(body, at, shape) {
-            Block::Found(m, next) => {
-                if i == k {
-                    return m;
-                }
-                at = next;
-                i += 1;
-            }
-            Block::Broken(_) => {
-                return Message {
-                    time: 0,
-                    id: 0,
-                    start: 0,
-                    length: 0,
-                };
-            }
-        }
+    while i < k {
+        let m = head_at(body, at, shape.stamped);
+        at = m.start + m.length + m.length % 2;
+        i += 1;
     }
+    head_at(body, at, shape.stamped)
 }
 
 // The k-th message, where there are so many.
@@ -75,17 +61,11 @@ fn fill_lists(
     let mut k: usize = 0;
     let mut at: usize = 4;
     while k < n {
-        match next_block(body, at, shape) {
-            Block::Found(m, next) => {
-                starts[k] = (base + m.start) as u32;
-                lengths[k] = m.length as u32;
-                at = next;
-                k += 1;
-            }
-            Block::Broken(_) => {
-                return;
-            }
-        }
+        let m = head_at(body, at, shape.stamped);
+        starts[k] = (base + m.start) as u32;
+        lengths[k] = m.length as u32;
+        at = m.start + m.length + m.length % 2;
+        k += 1;
     }
 }
 

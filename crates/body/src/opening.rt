@@ -24,10 +24,12 @@ fn counter_ok(t: u32, counter: u32) -> bool
 fn message_shape(rule: TimeRule, word: u32) -> Opened
     ensures { λ r. ⌜ r ≡ messageShape rule word ⌝ }
 {
-    if !((word < 262144) & counter_ok(word / 65536, word % 65536)) {
+    let kind = word / 0x1_0000;
+    let counter = word % 0x1_0000;
+    if !((word < 0x4_0000) & counter_ok(kind, counter)) {
         return Opened::Wrong;
     }
-    let count = if word < 65536 { word as usize } else { 1 };
+    let count = if kind == 0 { counter as usize } else { 1 };
     Opened::Shaped(Shape {
         stamped: true,
         counted: true,
@@ -40,8 +42,8 @@ fn message_shape(rule: TimeRule, word: u32) -> Opened
 fn uart_shape(rule: TimeRule, word: u32) -> Opened
     ensures { λ r. ⌜ r ≡ uartShape rule word ⌝ }
 {
-    if word % 2147483648 == 0 {
-        let stamped = 2147483648 <= word;
+    if word % 0x8000_0000 == 0 {
+        let stamped = 0x8000_0000 <= word;
         return Opened::Shaped(Shape {
             stamped,
             counted: false,

@@ -8,9 +8,9 @@ pub fn time_ok(rule: TimeRule, time: u64) -> bool
     ensures { λ r. ⌜ r ≡ timeOk rule time ⌝ }
 {
     match rule {
-        TimeRule::Counter => time < 281474976710656,
-        TimeRule::Chapter4 => time % 65536 == 0,
-        TimeRule::Ieee1588 => time % 4294967296 < 1000000000,
+        TimeRule::Counter => time < 0x1_0000_0000_0000,
+        TimeRule::Chapter4 => time % 0x1_0000 == 0,
+        TimeRule::Ieee1588 => time % 0x1_0000_0000 < 1_000_000_000,
         TimeRule::Extended => true,
     }
 }

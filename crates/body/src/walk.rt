@@ -1,6 +1,6 @@
 // One block, and the walk over all blocks of a body.
 ghost use mathlib.Core.Path.{_≡_};
-ghost use Prim.Native.Nat.{_+_, _≤_, _<_};
+ghost use Prim.Native.Nat.{_+_, _^_, _≤_, _<_};
 ghost use lib.ListN.{length};
 ghost use Rattle.body.specs.Walk.{stampLength, headAt, judge, blockAt, stopAt, walk};
 use crate::Block;
@@ -22,7 +22,7 @@ pub fn stamp_length(stamped: bool) -> usize
 }
 
 // What the head of a block at `at` says.
-fn head_at(body: &[u8], at: usize, stamped: bool) -> Message
+pub fn head_at(body: &[u8], at: usize, stamped: bool) -> Message
     requires { ⌜ at + stampLength stamped + 4 ≤ length (now body) ⌝ }
     ensures { λ r. ⌜ r ≡ headAt stamped (now (body .entry)) at ⌝ }
 {
@@ -33,7 +33,7 @@ fn head_at(body: &[u8], at: usize, stamped: bool) -> Message
             time,
             id,
             start: at + 8 + 4,
-            length: (id % 65536) as usize,
+            length: (id % 0x1_0000) as usize,
         };
     }
     let id = read32(body, at);
@@ -41,13 +41,13 @@ fn head_at(body: &[u8], at: usize, stamped: bool) -> Message
         time: 0,
         id,
         start: at + 4,
-        length: (id % 65536) as usize,
+        length: (id % 0x1_0000) as usize,
     }
 }
 
 // The block at `at`, by what its head says.
 fn judge_block(body: &[u8], rule: TimeRule, at: usize, m: Message) -> Block
-    requires { ⌜ (at ≤ m .start) × (m .start ≤ length (now body)) × (m .length < 65536) ⌝ }
+    requires { ⌜ (at ≤ m .start) × (m .start ≤ length (now body)) × (m .length < 2 ^ 16) ⌝ }
     ensures { λ r. ⌜ r ≡ judge rule (now (body .entry)) at m ⌝ }
 {
     let pad = m.start + m.length;
@@ -68,7 +68,7 @@ fn judge_block(body: &[u8], rule: TimeRule, at: usize, m: Message) -> Block
 }
 
 // The block at `at`: the message and the place behind it, or the refusal.
-pub fn next_block(body: &[u8], at: usize, shape: Shape) -> Block
+fn next_block(body: &[u8], at: usize, shape: Shape) -> Block
     ensures { λ r. ⌜ r ≡ blockAt shape (now (body .entry)) at ⌝ }
 {
     if body.len() <= at {

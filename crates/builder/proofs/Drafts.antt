@@ -5,25 +5,25 @@ use mathlib.Core.Bool.{Bool, true, false, not, _&&_, _||_}
 use Prim.Native.Nat.{ℕ, _+_, _*_, _%_, _^_, _≤_, _<_}
 use native.Mathlib.Omega.{arith}
 use lib.ListN.{length, replicate, length-append, length-replicate}
-use lib.Dec.{ltb, eqb}
-use borrow.Author.Tests.{ltb-false, eqb-true, eqb-false, not-false, le-ltb, eq-eqb}
+use lib.Dec.{ltb, leb, eqb}
+use borrow.Author.Tests.{ltb-false, leb-false, eqb-true, eqb-false, not-false, le-ltb, eq-eqb}
 use Rattle.units.specs.Units.{bytesOf, splice}
 use Rattle.units.specs.Choice.{pick}
 use Rattle.units.proofs.Numbers.{length-bytesOf}
 use Rattle.units.proofs.Writes.{chain}
 use Rattle.units.proofs.Choices.{passed, or-false}
-use Rattle.body.specs.Walk.{stampLength}
+use Rattle.body.specs.Walk.{stampLength, blockSize}
 use Rattle.body.specs.Blocks.{Entry, blockBytes}
 use Rattle.body.specs.declared.Refusal.{Refusal}
-use Rattle.builder.specs.Build.{makes, badDraft, denied, openStep, badBlock, badTime, strayTime, grown, added, addStep, entryOf, closeStep, bufAfter}
+use Rattle.builder.specs.Build.{counts, makes, badDraft, denied, openStep, badBlock, badTime, strayTime, grown, added, addStep, entryOf, closeStep, told, bufAfter}
 use Rattle.builder.specs.declared.Draft.{Draft}
 use Rattle.builder.specs.declared.Step.{Step}
 use Rattle.builder.specs.declared.Step.the-variants.{Done, Denied}
 
 -- ---- tests that passed
 
-few-blocks : (kind blocks most : ℕ) → (eqb kind 0x30 && ltb most blocks) ≡ false → kind ≡ 0x30 → blocks ≤ most
-few-blocks kind blocks most e k = ltb-false most blocks (rw (eq-eqb kind 0x30 k) at e)
+few-blocks : (kind : ℕ) (t : Bool) → (counts kind && t) ≡ false → kind ≡ 0x30 → t ≡ false
+few-blocks kind t e k = rw (eq-eqb kind 0x30 k) at e
 
 -- a state that a step takes
 pub draft-facts : (d : Draft) (room : ℕ) → badDraft d room ≡ false
@@ -32,14 +32,14 @@ draft-facts d room e =
     let outside = ltb room (d .used) in
     let under = ltb (d .used) 4 in
     let unmade = not (makes (d .kind) (d .rule)) in
-    let many = eqb (d .kind) 0x30 && ltb 65535 (d .blocks) in
+    let many = counts (d .kind) && ltb 65535 (d .blocks) in
     let p = or-false (outside || under || unmade) many e in
     let q = or-false (outside || under) unmade (p .0) in
     let r = or-false outside under (q .0) in (
       ltb-false room (d .used) (r .0),
       ltb-false (d .used) 4 (r .1),
       not-false (makes (d .kind) (d .rule)) (q .1),
-      few-blocks (d .kind) (d .blocks) 65535 (p .1),
+      (λ k. ltb-false 65535 (d .blocks) (few-blocks (d .kind) (ltb 65535 (d .blocks)) (p .1) k)),
     )
 
 pub draft-good : (d : Draft) (room : ℕ) → d .used ≤ room → 4 ≤ d .used → makes (d .kind) (d .rule) ≡ true → (d .kind ≡ 0x30 → d .blocks ≤ 65535)
@@ -47,19 +47,19 @@ pub draft-good : (d : Draft) (room : ℕ) → d .used ≤ room → 4 ≤ d .used
 draft-good d room inside enough made few =
     simp (le-ltb room (d .used) inside, le-ltb (d .used) 4 enough, made) (go (eqb (d .kind) 0x30) refl)
   where
-    go : (t : Bool) → eqb (d .kind) 0x30 ≡ t → (t && ltb 65535 (d .blocks)) ≡ false
+    go : (t : Bool) → counts (d .kind) ≡ t → (t && ltb 65535 (d .blocks)) ≡ false
     go true t = le-ltb 65535 (d .blocks) (few (eqb-true (d .kind) 0x30 t))
     go false t = refl
 
 -- a block that a step takes
-pub block-facts : (d : Draft) (n : ℕ) → badBlock d n ≡ false → (0 < n) × (n < 65536) × (d .kind ≡ 0x30 → d .blocks ≤ 65534)
+pub block-facts : (d : Draft) (n : ℕ) → badBlock d n ≡ false → (0 < n) × (n < 2 ^ 16) × (d .kind ≡ 0x30 → d .blocks < 65535)
 block-facts d n e =
-    let many = eqb (d .kind) 0x30 && ltb 65534 (d .blocks) in
+    let many = counts (d .kind) && leb 65535 (d .blocks) in
     let p = or-false (eqb n 0 || ltb 65535 n) many e in
     let q = or-false (eqb n 0) (ltb 65535 n) (p .0) in
     let none : n ≡ 0 → ⊥ = eqb-false n 0 (q .0) in
     let short : n ≤ 65535 = ltb-false 65535 n (q .1) in
-    (omega arith, omega arith, few-blocks (d .kind) (d .blocks) 65534 (p .1))
+    (omega arith, omega arith, λ k. leb-false 65535 (d .blocks) (few-blocks (d .kind) (leb 65535 (d .blocks)) (p .1) k))
 
 -- ---- steps that are done
 
@@ -103,6 +103,16 @@ close-done d room d′ e =
     let q = passed (eqb (d .used) 4) (denied 15 0 d) (Done d) (Done d′) (not-done _ d d′) (p .1) in
     let same : d′ ≡ d = cc (q .1) in
     (p .0, eqb-false (d .used) 4 (q .0), same)
+
+-- closing that is not refused is done
+pub close-told : (d : Draft) (len : ℕ) → told (closeStep d len) .number ≡ 0 → closeStep d len ≡ Done d
+unfolding closeStep
+close-told d len e = go (badDraft d len) (eqb (d .used) 4) e
+  where
+    go : (t u : Bool) → told (pick t (denied 1 0 d) (pick u (denied 15 0 d) (Done d))) .number ≡ 0 → pick t (denied 1 0 d) (pick u (denied 15 0 d) (Done d)) ≡ Done d
+    go true u e = absurd (omega arith)
+    go false true e = absurd (omega arith)
+    go false false e = refl
 
 -- ---- steps that are denied: the state given is handed back
 
@@ -157,7 +167,7 @@ buf-put s d old at vs e = simp e
 
 -- four writes one behind the other are one block
 pub block-put : (st : Bool) (time upper : ℕ) (bytes : List ℕ) (head at : ℕ) (b₀ b₁ b₂ b₃ b₄ : List ℕ) → head ≡ at + stampLength st
-    → at + (stampLength st + 4 + length bytes + length bytes % 2) ≤ length b₀
+    → at + blockSize st (length bytes) ≤ length b₀
     → b₁ ≡ splice b₀ at (bytesOf (stampLength st) time)
     → b₂ ≡ splice b₁ head (bytesOf 4 (upper * 2 ^ 16 + length bytes))
     → b₃ ≡ splice b₂ (head + 4) bytes

@@ -3,11 +3,11 @@ use mathlib.Core.List.{List, [], _∷_, _++_}
 use mathlib.Core.Bool.{Bool, true, false, not, _&&_, _||_}
 use Prim.Native.Nat.{ℕ, _+_, _*_, _%_, _^_}
 use lib.ListN.{length}
-use lib.Dec.{ltb, eqb}
+use lib.Dec.{ltb, leb, eqb}
 use Rattle.units.specs.Units.{bytesOf, splice}
 use Rattle.units.specs.Choice.{pick}
 use Rattle.body.specs.Times.{timeOk, ruleOf}
-use Rattle.body.specs.Walk.{refused, stampLength}
+use Rattle.body.specs.Walk.{refused, blockSize}
 use Rattle.body.specs.Blocks.{Entry}
 use Rattle.builder.specs.declared.Draft.{Draft}
 use Rattle.builder.specs.declared.Step.{Step}
@@ -19,28 +19,32 @@ use Rattle.builder.specs.declared.Step.the-variants.{Done, Denied}
 abbrev pub stamped : ℕ → Bool
 stamped rule = ltb 0 rule
 
+-- blocks are counted in 0x30
+abbrev pub counts : ℕ → Bool
+counts kind = eqb kind 0x30
+
 -- what opening takes: 0x30 with a time rule, 0x50 with one or none; 5, the reserved time format, and all above it are no rules
 abbrev pub makes : ℕ → ℕ → Bool
-makes kind rule = ((eqb kind 0x30 && ltb 0 rule) || eqb kind 0x50) && ltb rule 5
+makes kind rule = ((eqb kind 0x30 && stamped rule) || eqb kind 0x50) && ltb rule 5
 
 -- 1: the used count is outside its buffer or under 4, or a type or time rule that opening refuses, or over 65,535 blocks in 0x30
 abbrev pub badDraft : Draft → ℕ → Bool
-badDraft d room =
-    ltb room (d .used) || ltb (d .used) 4 || not (makes (d .kind) (d .rule)) || (eqb (d .kind) 0x30 && ltb 65535 (d .blocks))
+badDraft d len =
+    ltb len (d .used) || ltb (d .used) 4 || not (makes (d .kind) (d .rule)) || (counts (d .kind) && ltb 65535 (d .blocks))
 
 abbrev pub freshDraft : Draft
 freshDraft = record { used = 0; blocks = 0; kind = 0; rule = 0 }
 
--- a refused step hands back the state it was given; the place is 0
+-- a refused step hands back the state it was given; the place is 0, and 16 has the room needed
 abbrev pub denied : ℕ → ℕ → Draft → Step
 denied number room d = Denied (refused number 0 room) d
 
 -- ---- opening: 17, then 16
 
 unfoldable pub openStep : Draft → ℕ → ℕ → ℕ → Step
-openStep d kind rule room =
+openStep d kind rule len =
     pick (not (makes kind rule)) (denied 17 0 d)
-    (pick (ltb room 4) (denied 16 4 d)
+    (pick (ltb len 4) (denied 16 4 d)
     (Done (record { used = 4; blocks = 0; kind = kind; rule = rule })))
 
 -- the channel word: counter 0 in 0x30; bit 31 in 0x50 where times are stored
@@ -51,7 +55,7 @@ openWord kind rule = pick (eqb kind 0x50 && stamped rule) (2 ^ 31) 0
 
 -- n outside 1 to 65,535, or a 65,536th block in 0x30
 abbrev pub badBlock : Draft → ℕ → Bool
-badBlock d n = eqb n 0 || ltb 65535 n || (eqb (d .kind) 0x30 && ltb 65534 (d .blocks))
+badBlock d n = eqb n 0 || ltb 65535 n || (counts (d .kind) && leb 65535 (d .blocks))
 
 -- a time out of form
 abbrev pub badTime : ℕ → ℕ → Bool
@@ -63,18 +67,18 @@ strayTime rule time = not (stamped rule) && not (eqb time 0)
 
 -- the used count with a block of n bytes more
 unfoldable pub grown : Draft → ℕ → ℕ
-grown d n = d .used + (stampLength (stamped (d .rule)) + 4 + n + n % 2)
+grown d n = d .used + blockSize (stamped (d .rule)) n
 
 unfoldable pub added : Draft → ℕ → Draft
 added d n = record { used = grown d n; blocks = (d .blocks + 1) % 2 ^ 64; kind = d .kind; rule = d .rule }
 
 unfoldable pub addStep : Draft → ℕ → ℕ → ℕ → Step
-addStep d room time n =
-    pick (badDraft d room) (denied 1 0 d)
+addStep d len time n =
+    pick (badDraft d len) (denied 1 0 d)
     (pick (badBlock d n) (denied 17 0 d)
     (pick (badTime (d .rule) time) (denied 15 0 d)
     (pick (strayTime (d .rule) time) (denied 17 0 d)
-    (pick (ltb room (grown d n)) (denied 16 (grown d n) d)
+    (pick (ltb len (grown d n)) (denied 16 (grown d n) d)
     (Done (added d n))))))
 
 -- the block: the time, the ID word made of its upper half and n, and the n bytes
@@ -84,28 +88,34 @@ entryOf time upper bytes = record { time = time; id = upper * 2 ^ 16 + length by
 -- ---- closing: 1, then 15 where the used count is 4
 
 unfoldable pub closeStep : Draft → ℕ → Step
-closeStep d room =
-    pick (badDraft d room) (denied 1 0 d)
+closeStep d len =
+    pick (badDraft d len) (denied 1 0 d)
     (pick (eqb (d .used) 4) (denied 15 0 d)
     (Done d))
 
 -- the counter in 0x30, nothing in 0x50
 abbrev pub counterBytes : Draft → List ℕ
-counterBytes d = pick (eqb (d .kind) 0x30) (bytesOf 2 (d .blocks)) []
+counterBytes d = pick (counts (d .kind)) (bytesOf 2 (d .blocks)) []
 
 -- ---- after a step
 
--- the buffer: vs written at `at`, or untouched
+-- document 01's number and values of an answer: 0 and zeros where it is done; and the state that is handed on
+pub record Told : Type 0 where
+  pub number : ℕ
+  pub place : ℕ
+  pub room : ℕ
+  pub draft : Draft
+
+abbrev pub told : Step → Told
+told (Done d) = record { number = 0; place = 0; room = 0; draft = d }
+told (Denied r d) = record { number = r .number; place = r .place; room = r .room; draft = d }
+
+-- the buffer, of which a step is given the length: vs written at `at`, or untouched
 unfoldable pub bufAfter : Step → List ℕ → ℕ → List ℕ → List ℕ
 bufAfter (Done d) old at vs = splice old at vs
 bufAfter (Denied r d) old at vs = old
 
--- the state that is handed on
-abbrev pub draftAfter : Step → Draft
-draftAfter (Done d) = d
-draftAfter (Denied r d) = d
-
--- what counts as added: where the step is done, this; else as before
+-- the blocks that count as added: where the step is done, these; else those before it
 abbrev pub entriesAfter : Step → List Entry → List Entry → List Entry
 entriesAfter (Done d) done before = done
 entriesAfter (Denied r d) done before = before

@@ -1,12 +1,12 @@
 // The body builder: makes 0x30 (type 00) and 0x50 bodies in a lent buffer.
 // A body's state goes into each step by value and comes back, also from a refused step, which leaves the buffer as it was.
 ghost use mathlib.Core.Path.{_≡_};
-ghost use Prim.Native.Nat.{_+_, _%_, _≤_, _<_};
+ghost use Prim.Native.Nat.{_+_, _^_, _≤_, _<_};
 ghost use lib.ListN.{length};
 ghost use Rattle.units.specs.Units.{bytesOf, splice};
 ghost use Rattle.body.specs.Blocks.{blockBytes};
-ghost use Rattle.body.specs.Walk.{stampLength};
-ghost use Rattle.builder.specs.Build.{stamped, makes, badDraft, freshDraft, denied, openStep, openWord, badBlock, badTime, strayTime, grown, added, addStep, entryOf, closeStep, counterBytes, bufAfter};
+ghost use Rattle.body.specs.Walk.{stampLength, blockSize};
+ghost use Rattle.builder.specs.Build.{stamped, counts, makes, badDraft, freshDraft, denied, openStep, openWord, badBlock, badTime, strayTime, grown, added, addStep, entryOf, closeStep, counterBytes, bufAfter};
 use body::Refusal;
 use body::refuse;
 use body::time::rule_of;
@@ -95,8 +95,8 @@ impl Draft {
         if self.used == 4 {
             return deny(15, 0, self);
         }
-        if self.kind == 0x30 {
-            put16(buf, 0, (self.blocks % 65536) as u16);
+        if counts_blocks(self.kind) {
+            put16(buf, 0, (self.blocks % 0x1_0000) as u16);
         }
         Step::Done(self)
     }
@@ -116,14 +116,21 @@ fn makes_body(kind: u8, rule: u8) -> bool
     (((kind == 0x30) & (0 < rule)) | (kind == 0x50)) & (rule < 5)
 }
 
-// Whether a state is refused with 1.
-fn bad_draft(draft: Draft, room: usize) -> bool
-    ensures { λ r. ⌜ r ≡ badDraft draft room ⌝ }
+// Whether blocks of this type are counted.
+fn counts_blocks(kind: u8) -> bool
+    ensures { λ r. ⌜ r ≡ counts kind ⌝ }
 {
-    (room < draft.used)
+    kind == 0x30
+}
+
+// Whether a state is refused with 1, in a buffer of this length.
+fn bad_draft(draft: Draft, len: usize) -> bool
+    ensures { λ r. ⌜ r ≡ badDraft draft len ⌝ }
+{
+    (len < draft.used)
         | (draft.used < 4)
         | !makes_body(draft.kind, draft.rule)
-        | ((draft.kind == 0x30) & (65535 < draft.blocks))
+        | (counts_blocks(draft.kind) & (65535 < draft.blocks))
 }
 
 // The channel word that opening writes.
@@ -131,7 +138,7 @@ fn open_word(kind: u8, rule: u8) -> u32
     ensures { λ r. ⌜ r ≡ openWord kind rule ⌝ }
 {
     if (kind == 0x50) & (0 < rule) {
-        2147483648
+        0x8000_0000
     } else {
         0
     }
@@ -141,7 +148,7 @@ fn open_word(kind: u8, rule: u8) -> u32
 fn bad_block(draft: Draft, n: usize) -> bool
     ensures { λ r. ⌜ r ≡ badBlock draft n ⌝ }
 {
-    (n == 0) | (65535 < n) | ((draft.kind == 0x30) & (65534 < draft.blocks))
+    (n == 0) | (65535 < n) | (counts_blocks(draft.kind) & (65535 <= draft.blocks))
 }
 
 // Whether a time that is stored is out of form: 15.
@@ -160,18 +167,18 @@ fn stray_time(rule: u8, time: u64) -> bool
 
 // The used count with a block of n bytes more.
 fn used_after(draft: Draft, n: usize) -> usize
-    requires { ⌜ (draft .used ≤ 9223372036854775807) × (n < 65536) ⌝ }
+    requires { ⌜ (draft .used < 2 ^ 63) × (n < 2 ^ 16) ⌝ }
     ensures { λ r. ⌜ r ≡ grown draft n ⌝ }
 {
     draft.used + (stamp_length(0 < draft.rule) + 4 + n + n % 2)
 }
 
-// What adding a block of n bytes says, and the state after it.
-fn judge_add(draft: Draft, room: usize, time: u64, n: usize) -> Step
-    requires { ⌜ room ≤ 9223372036854775807 ⌝ }
-    ensures { λ r. ⌜ r ≡ addStep draft room time n ⌝ }
+// What adding a block of n bytes in a buffer of this length says, and the state after it.
+fn judge_add(draft: Draft, len: usize, time: u64, n: usize) -> Step
+    requires { ⌜ len < 2 ^ 63 ⌝ }
+    ensures { λ r. ⌜ r ≡ addStep draft len time n ⌝ }
 {
-    if bad_draft(draft, room) {
+    if bad_draft(draft, len) {
         return deny(1, 0, draft);
     }
     if bad_block(draft, n) {
@@ -184,7 +191,7 @@ fn judge_add(draft: Draft, room: usize, time: u64, n: usize) -> Step
         return deny(17, 0, draft);
     }
     let used = used_after(draft, n);
-    if room < used {
+    if len < used {
         return deny(16, used, draft);
     }
     Step::Done(Draft {
@@ -207,13 +214,13 @@ fn put_stamp(buf: &mut [u8], at: usize, stamped: bool, time: u64)
 
 // Writes a block.
 fn put_block(buf: &mut [u8], at: usize, stamped: bool, time: u64, upper: u16, bytes: &[u8])
-    requires { ⌜ (length (now bytes) < 65536) × (at + (stampLength stamped + 4 + length (now bytes) + length (now bytes) % 2) ≤ length (now buf)) ⌝ }
+    requires { ⌜ (length (now bytes) < 2 ^ 16) × (at + blockSize stamped (length (now bytes)) ≤ length (now buf)) ⌝ }
     ensures { λ _. ⌜ now (buf .exit) ≡ splice (now (buf .entry)) at (blockBytes stamped (entryOf time upper (now (bytes .entry)))) ⌝ }
 {
     let head = at + stamp_length(stamped);
     let n = bytes.len();
     put_stamp(buf, at, stamped, time);
-    put32(buf, head, (upper as u32) * 65536 + (n as u32));
+    put32(buf, head, (upper as u32) * 0x1_0000 + (n as u32));
     copy_at(buf, head + 4, bytes);
     clear_at(buf, head + 4 + n, n % 2);
 }

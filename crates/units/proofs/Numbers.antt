@@ -6,9 +6,9 @@ use Prim.Native.Nat.{ℕ, zero, suc, _+_, _*_, _/_, _%_, _^_, _≤_, _<_}
 use native.Mathlib.Omega.{arith}
 use native.Mathlib.Nat.{zero-add, div-one, div-div-eq-div-mul, mod-one, mod-mod, pow-suc, pow-succ', mul-assoc, one-le-pow, mod-eq-of-lt, suc-add}
 use lib.Arith.{mod-mul}
-use lib.Dec.{lit<, ltb, eqb}
+use lib.Dec.{lit<, eqb}
 use lib.ListN.{length, take, drop, getD, replicate, take-append-drop}
-use borrow.Author.Tests.{ltb-true, eq-eqb, ne-eqb, eqb-true}
+use borrow.Author.Tests.{eq-eqb, ne-eqb, eqb-true}
 use Rattle.units.specs.Units.{Bytes, num, bytesOf, zeros}
 use Rattle.units.proofs.Choices.{and-true}
 
@@ -43,20 +43,6 @@ pub bytes-from : (xs : List ℕ) → ((i : ℕ) → i < length xs → getD xs i 
 unfolding Bytes
 bytes-from [] h = tt
 bytes-from (x ∷ xs) h = (h 0 (omega arith), bytes-from xs (λ i l. h (suc i) (omega arith)))
-
--- by a test that is computed, for a list that is written out
-abbrev pub allBytes : List ℕ → Bool
-allBytes [] = true
-allBytes (x ∷ xs) = ltb x 256 && allBytes xs
-
-pub bytes-by : (xs : List ℕ) → allBytes xs ≡ true → Bytes xs
-unfolding Bytes
-bytes-by [] t = tt
-bytes-by (x ∷ xs) t = go (λ (q : allBytes xs ≡ true). bytes-by xs q) (ltb x 256) refl t
-  where
-    go : (allBytes xs ≡ true → Bytes xs) → (b : Bool) → ltb x 256 ≡ b → (b && allBytes xs) ≡ true → (x < 256) × Bytes xs
-    go f true e t = (ltb-true x 256 e, f t)
-    go f false e t = let z : _≡_ {A = ℕ} 0 1 = cc in absurd (omega arith)
 
 -- ---- a number and its bytes, both ways
 

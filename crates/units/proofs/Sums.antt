@@ -1,6 +1,6 @@
 -- Laws of sums of units, each over the width, and THE fact: one unit replaced by a different one makes the sum wrong. Assumes nothing.
 use mathlib.Core.Path.{_≡_, refl, sym, ap, _∙_}
-use mathlib.Core.List.{List, [], _∷_, _++_, append-assoc, append-nil}
+use mathlib.Core.List.{List, [], _∷_, _++_, append-assoc}
 use mathlib.Core.Bool.{Bool, true, false}
 use mathlib.Core.Logic.{_≢_}
 use Prim.Native.Nat.{ℕ, zero, suc, _+_, _-_, _*_, _/_, _%_, _^_, _≤_, _<_}
@@ -10,10 +10,10 @@ use native.Mathlib.Nat.{zero-add, add-zero, add-left-comm, mul-zero, mul-suc, mo
 use native.Mathlib.Numerals.{add-one}
 use lib.Dec.{eqb}
 use lib.ListN.{length, take, drop, length-append, length-drop, take-append-drop}
-use lib.Seq.{length-take-le, drop-drop, take-append-le, drop-append-le, drop-append-add, take-all, take-at, drop-at}
+use lib.Seq.{length-take-le, drop-drop, take-append-le, drop-append-le, drop-append-add, take-at, drop-at}
 use borrow.Author.Tests.{eqb-true, eq-eqb, ne-eqb}
-use Rattle.units.specs.Units.{Bytes, part, num, field, bytesOf, splice, sumUnits, checksum, closed, summed, Changed}
-use Rattle.units.proofs.Numbers.{pow-pos, bytes-append, bytes-left, bytes-right, length-bytesOf, bytes-bytesOf, num-bytesOf-mod, num-inj, num-lt}
+use Rattle.units.specs.Units.{Bytes, num, field, splice, sumUnits, checksum, summed, Changed}
+use Rattle.units.proofs.Numbers.{pow-pos, bytes-left, bytes-right, num-inj, num-lt}
 use Rattle.units.proofs.Writes.{length-splice, part-splice-before}
 
 -- ---- modulo
@@ -95,39 +95,10 @@ pub summed-wrong : (w k : ℕ) (xs : List ℕ) → (checksum w k xs ≡ field xs
 unfolding summed
 summed-wrong w k xs d = ne-eqb (checksum w k xs) (field xs (w * k) w) d
 
-pub field-last : (w k : ℕ) (xs u : List ℕ) → length xs ≡ w * k → length u ≡ w → field (xs ++ u) (w * k) w ≡ num u
-field-last w k xs u hx hu = rw (drop-at xs u (w * k) hx, take-all w u (omega arith))
-
-pub length-closed : (w k : ℕ) (xs : List ℕ) → length (closed w k xs) ≡ length xs + w
-unfolding closed
-length-closed w k xs = rw (length-append, length-bytesOf)
-
-pub bytes-closed : (w k : ℕ) (xs : List ℕ) → Bytes xs → Bytes (closed w k xs)
-unfolding closed
-bytes-closed w k xs h = bytes-append xs (bytesOf w (sumUnits w k xs)) h (bytes-bytesOf w (sumUnits w k xs))
-
--- units with their sum behind them pass, and only that sum does
-pub summed-closed : (w k : ℕ) (xs : List ℕ) → length xs ≡ w * k → summed w k (closed w k xs) ≡ true
-unfolding closed
-summed-closed w k xs h =
-    let s = bytesOf w (sumUnits w k xs) in
-    summed-made w k (xs ++ s)
-    (rw (sum-over w k xs s h, field-last w k xs s h (length-bytesOf w (sumUnits w k xs)), num-bytesOf-mod w (sumUnits w k xs)))
-
-pub closed-of : (w k : ℕ) (xs u : List ℕ) → length xs ≡ w * k → length u ≡ w → Bytes u → summed w k (xs ++ u) ≡ true → xs ++ u ≡ closed w k xs
-unfolding closed
-closed-of w k xs u hx hu bu t =
-    ap (λ (r : List ℕ). xs ++ r) (num-inj u (bytesOf w (sumUnits w k xs)) bu (bytes-bytesOf w (sumUnits w k xs)) (hu ∙ sym (length-bytesOf w (sumUnits w k xs)))
-    (cc (summed-says w k (xs ++ u) t, sum-over w k xs u hx, field-last w k xs u hx hu, num-bytesOf-mod w (sumUnits w k xs))))
-
 -- a sum of no width is there in every list
 pub summed-none : (k : ℕ) (xs : List ℕ) → summed 0 k xs ≡ true
 unfolding num
 summed-none k xs = summed-made 0 k xs (mod-one (sumUnits 0 k xs))
-
-pub closed-none : (k : ℕ) (xs : List ℕ) → closed 0 k xs ≡ xs
-unfolding closed bytesOf
-closed-none k xs = append-nil xs
 
 -- ---- what a sum sees, at every width
 

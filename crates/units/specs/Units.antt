@@ -75,10 +75,6 @@ dataSum code bs = checksum (sumWidth code) (length bs / sumWidth code) bs
 
 -- ---- a sum that stands behind what it adds up
 
--- k units of w bytes, and behind them their sum in w bytes
-unfoldable pub closed : ℕ → ℕ → List ℕ → List ℕ
-closed w k bs = bs ++ bytesOf w (sumUnits w k bs)
-
 -- whether the unit behind the first k units of w bytes is their sum
 unfoldable pub summed : ℕ → ℕ → List ℕ → Bool
 summed w k bs = eqb (checksum w k bs) (field bs (w * k) w)

@@ -26,7 +26,7 @@ pub fn read32(s: &[u8], at: usize) -> u32
 {
     let low = read16(s, at);
     let high = read16(s, at + 2);
-    low as u32 + high as u32 * 65536
+    low as u32 + high as u32 * 0x1_0000
 }
 
 // The number in the 6 bytes from `at` on.
@@ -36,7 +36,7 @@ pub fn read48(s: &[u8], at: usize) -> u64
 {
     let low = read32(s, at);
     let high = read16(s, at + 4);
-    low as u64 + high as u64 * 4294967296
+    low as u64 + high as u64 * 0x1_0000_0000
 }
 
 // The number in the 8 bytes from `at` on.
@@ -46,7 +46,7 @@ pub fn read64(s: &[u8], at: usize) -> u64
 {
     let low = read32(s, at);
     let high = read32(s, at + 4);
-    low as u64 + high as u64 * 4294967296
+    low as u64 + high as u64 * 0x1_0000_0000
 }
 
 // Writes v into the 2 bytes from `at` on.
@@ -64,8 +64,8 @@ pub fn put32(s: &mut [u8], at: usize, v: u32)
     requires { ⌜ at + 4 ≤ length (now s) ⌝ }
     ensures { λ _. ⌜ now (s .exit) ≡ splice (now (s .entry)) at (bytesOf 4 v) ⌝ }
 {
-    put16(s, at, (v % 65536) as u16);
-    put16(s, at + 2, (v / 65536 % 65536) as u16);
+    put16(s, at, (v % 0x1_0000) as u16);
+    put16(s, at + 2, (v / 0x1_0000 % 0x1_0000) as u16);
 }
 
 // Writes the low 48 bits of v into the 6 bytes from `at` on.
@@ -73,8 +73,8 @@ pub fn put48(s: &mut [u8], at: usize, v: u64)
     requires { ⌜ at + 6 ≤ length (now s) ⌝ }
     ensures { λ _. ⌜ now (s .exit) ≡ splice (now (s .entry)) at (bytesOf 6 v) ⌝ }
 {
-    put32(s, at, (v % 4294967296) as u32);
-    put16(s, at + 4, (v / 4294967296 % 65536) as u16);
+    put32(s, at, (v % 0x1_0000_0000) as u32);
+    put16(s, at + 4, (v / 0x1_0000_0000 % 0x1_0000) as u16);
 }
 
 // Writes v into the 8 bytes from `at` on.
@@ -82,8 +82,8 @@ pub fn put64(s: &mut [u8], at: usize, v: u64)
     requires { ⌜ at + 8 ≤ length (now s) ⌝ }
     ensures { λ _. ⌜ now (s .exit) ≡ splice (now (s .entry)) at (bytesOf 8 v) ⌝ }
 {
-    put32(s, at, (v % 4294967296) as u32);
-    put32(s, at + 4, (v / 4294967296 % 4294967296) as u32);
+    put32(s, at, (v % 0x1_0000_0000) as u32);
+    put32(s, at + 4, (v / 0x1_0000_0000 % 0x1_0000_0000) as u32);
 }
 
 // Copies src over dst from `at` on.

@@ -42,7 +42,7 @@ used-after-requires : tie.Need-used-after-requires
 used-after-requires c κs =
     let at-else1 = c .before .before .before .before .before .before in
     let a = at-else1 .before .before .args in
-    let t = draft-facts (a .draft) (a .room) (sym (at-else1 .before .bad-draft .ensures) ∙ at-else1 .if1 .left) in
+    let t = draft-facts (a .draft) (a .len) (sym (at-else1 .before .bad-draft .ensures) ∙ at-else1 .if1 .left) in
     let u = block-facts (a .draft) (a .n) (sym (c .before .before .before .before .before .bad-block .ensures) ∙ c .before .before .before .before .if2 .left) in
     (omega (arith, t .0, at-else1 .before .before .pre), u .1)
 

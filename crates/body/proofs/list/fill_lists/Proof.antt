@@ -1,4 +1,4 @@
-use Rattle.body.proofs.Reading.{Reading, reading-first, reading-whole, reading-next, walking-message, found-bytes, fill-next}
+use Rattle.body.proofs.Reading.{Reading, reading-first, reading-fits, reading-ahead, fill-next}
 use Rattle.body.specs.Answers.{messageOf, tab, filled, startsOf, lengthsOf}
 use Rattle.body.specs.declared.Message.{Message}
 use lib.ListN.{length}
@@ -8,6 +8,9 @@ use mathlib.Core.Path.{_≡_, refl, sym, ap, _∙_}
 use borrow.Author.Needs.{needs}
 use Rattle.body.proofs.list.fill_lists.Statement.{statement}
 use Rattle.body.proofs.list.fill_lists.Tie as tie
+use Rattle.body.proofs.list.fill_lists.Reads as reads
+use Rattle.body.proofs.list.fill_lists.Lts as lts
+use Rattle.body.proofs.walk.head_at.Reads as head-at-reads
 
 abbrev Inv-loop : tie.InvT-loop
 Inv-loop body base shape n starts₀ lengths₀ k₀ at₀ starts lengths k at =
@@ -21,59 +24,104 @@ Inv-loop body base shape n starts₀ lengths₀ k₀ at₀ starts lengths k at =
 abbrev μ-loop : tie.MeasureT-loop
 μ-loop body base shape n starts₀ lengths₀ k₀ at₀ starts lengths k at = n - k
 
+-- src/list.rt:63:5
 loop-holds : tie.Need-loop-holds Inv-loop μ-loop
 unfolding filled tab
 loop-holds c =
     let start = c .before .before .before in
     (omega arith, reading-first _ _ _ (start .pre .0 .0) (start .pre .0 .1), refl, refl, refl, refl)
 
+-- src/list.rt:64:13
+head-at-requires : tie.Need-head-at-requires Inv-loop μ-loop
+head-at-requires c κs = reading-fits _ _ _ _ _ (c .before .loop .inv .1) (omega arith)
+
+-- src/list.rt:65:22
 add-starts : tie.Need-add-starts Inv-loop μ-loop
 add-starts c =
-    let after-m = c .before .before in
-    let after-block = after-m .before .before in
-    let f = found-bytes _ _ _ (after-m .m .given .0 .0) (after-m .m .given .0 .1 .0) (sym (after-block .next-block .ensures) ∙ after-m .m .given .1) in
-    omega arith
+    let read = c .before in
+    let f = reading-ahead _ _ _ _ _ (read .before .before .loop .inv .1) (omega arith) (read .head-at .result) (read .head-at .ensures) in
+    omega (arith, f .fits)
 
+-- src/list.rt:65:21
 cast-starts : tie.Need-cast-starts Inv-loop μ-loop
 cast-starts c =
-    let after-m = c .before .before in
-    let after-block = after-m .before .before in
-    let f = found-bytes _ _ _ (after-m .m .given .0 .0) (after-m .m .given .0 .1 .0) (sym (after-block .next-block .ensures) ∙ after-m .m .given .1) in
-    omega arith
+    let read = c .before in
+    let f = reading-ahead _ _ _ _ _ (read .before .before .loop .inv .1) (omega arith) (read .head-at .result) (read .head-at .ensures) in
+    omega (arith, f .fits, f .some)
 
+-- src/list.rt:65:9
+mul-starts : tie.Need-mul-starts Inv-loop μ-loop
+mul-starts c = search needs
+
+-- src/list.rt:65:9
+slice-write-starts : tie.Need-slice-write-starts Inv-loop μ-loop
+slice-write-starts c = search needs
+
+-- src/list.rt:66:22
 cast-lengths : tie.Need-cast-lengths Inv-loop μ-loop
 cast-lengths c =
-    let after-m = c .before .before .before in
-    let after-block = after-m .before .before in
-    let f = found-bytes _ _ _ (after-m .m .given .0 .0) (after-m .m .given .0 .1 .0) (sym (after-block .next-block .ensures) ∙ after-m .m .given .1) in
-    omega arith
+    let read = c .before .before in
+    let f = reading-ahead _ _ _ _ _ (read .before .before .loop .inv .1) (omega arith) (read .head-at .result) (read .head-at .ensures) in
+    omega (arith, f .short)
 
+-- src/list.rt:66:9
+mul-lengths : tie.Need-mul-lengths Inv-loop μ-loop
+mul-lengths c = search needs
+
+-- src/list.rt:66:9
+slice-write-lengths : tie.Need-slice-write-lengths Inv-loop μ-loop
+slice-write-lengths c = search needs
+
+-- src/list.rt:67:14
+add-at : tie.Need-add-at Inv-loop μ-loop
+add-at c =
+    let read = c .before .before .before in
+    let f = reading-ahead _ _ _ _ _ (read .before .before .loop .inv .1) (omega arith) (read .head-at .result) (read .head-at .ensures) in
+    omega (arith, f .fits)
+
+-- src/list.rt:67:14
+add-at-2 : tie.Need-add-at-2 Inv-loop μ-loop
+add-at-2 c =
+    let read = c .before .before .before .before in
+    let f = reading-ahead _ _ _ _ _ (read .before .before .loop .inv .1) (omega arith) (read .head-at .result) (read .head-at .ensures) in
+    omega (arith, f .fits)
+
+-- src/list.rt:68:9
+add-k : tie.Need-add-k Inv-loop μ-loop
+add-k c = search needs
+
+-- src/list.rt:63:5
+loop-less : tie.Need-loop-less Inv-loop μ-loop
+loop-less c = search needs
+
+-- src/list.rt:63:5
 loop-again : tie.Need-loop-again Inv-loop μ-loop
 loop-again c =
-    let after-m = c .before .before .before in
-    let after-block = after-m .before .before in
-    let at-loop = after-block .before .before in
+    let read = c .before .before .before .before in
+    let f = reading-ahead _ _ _ _ _ (read .before .before .loop .inv .1) (omega arith) (read .head-at .result) (read .head-at .ensures) in
+    let at-loop = read .before .before in
     let l = at-loop .loop in
     let a = at-loop .before .before .before .before .args in
-    let g = after-m .m .given in
-    let e = sym (after-block .next-block .ensures) ∙ g .1 in
-    let is = walking-message _ _ _ _ (g .0 .0) (g .0 .1 .0) (l .inv .1 .0) e in
     let messages = messageOf (a .shape) (a .body .now) in (
       omega arith,
-      reading-next _ _ _ _ _ (l .inv .1) (omega arith) (g .0 .0) (g .0 .1 .0) e,
-      fill-next _ (startsOf (a .base) messages) _ _ _ (omega arith) (l .inv .2) (ap (λ (m : Message). a .base + m .start) is),
-      fill-next _ (lengthsOf messages) _ _ _ (omega arith) (l .inv .3) (ap (λ (m : Message). m .length) is),
+      f .next,
+      fill-next _ (startsOf (a .base) messages) _ _ _ (omega arith) (l .inv .2) (ap (λ (m : Message). a .base + m .start) (f .message)),
+      fill-next _ (lengthsOf messages) _ _ _ (omega arith) (l .inv .3) (ap (λ (m : Message). m .length) (f .message)),
       search needs,
       search needs,
     )
 
+-- src/list.rt:48:1
+same-length : tie.Need-same-length Inv-loop μ-loop
+same-length c = search needs
+
+-- src/list.rt:48:1
+same-length-2 : tie.Need-same-length-2 Inv-loop μ-loop
+same-length-2 c = search needs
+
+-- src/list.rt:48:1
 returns : tie.Need-returns Inv-loop μ-loop
 returns c =
-    let after-block = c .before .before in
-    absurd (reading-whole _ _ _ _ _ (after-block .before .before .loop .inv .1) (omega arith) _ (sym (after-block .next-block .ensures) ∙ c .enum-told .given .1))
-
-returns-2 : tie.Need-returns-2 Inv-loop μ-loop
-returns-2 c =
     let l = c .before .loop in
     let e : l .k ≡ c .before .before .before .before .before .args .n = omega arith in
     (rw e at (l .inv .2), rw e at (l .inv .3))
@@ -85,22 +133,19 @@ fill-lists-spec =
     Inv-loop
     μ-loop
     loop-holds
-    (λ c κs. search needs)
-    (λ c. search needs)
+    head-at-requires
     add-starts
     cast-starts
-    (λ c. search needs)
-    (λ c. search needs)
+    mul-starts
+    slice-write-starts
     cast-lengths
-    (λ c. search needs)
-    (λ c. search needs)
-    (λ c. search needs)
-    (λ c. search needs)
+    mul-lengths
+    slice-write-lengths
+    add-at
+    add-at-2
+    add-k
+    loop-less
     loop-again
-    (λ c. search needs)
-    (λ c. search needs)
-    (λ c. search needs)
-    returns
-    (λ c. search needs)
-    (λ c. search needs)
-    returns-2)
+    same-length
+    same-length-2
+    returns)

@@ -1,11 +1,14 @@
-use Rattle.body.proofs.Reading.{Reading, reading-first, reading-whole, reading-next, walking-message}
 use Rattle.body.specs.Answers.{messageOf}
+use Rattle.body.proofs.Reading.{Reading, reading-first, reading-fits, reading-ahead}
 use Prim.Native.Nat.{ℕ, _≤_, _<_, _-_, _+_}
 use native.Mathlib.Omega.{arith}
 use mathlib.Core.Path.{_≡_, refl, sym, ap, _∙_}
 use borrow.Author.Needs.{needs}
 use Rattle.body.proofs.list.seek.Statement.{statement}
 use Rattle.body.proofs.list.seek.Tie as tie
+use Rattle.body.proofs.list.seek.Reads as reads
+use Rattle.body.proofs.list.seek.Lts as lts
+use Rattle.body.proofs.walk.head_at.Reads as head-at-reads
 
 abbrev Inv-loop : tie.InvT-loop
 Inv-loop body shape n k i₀ at₀ i at = (i ≤ k) × Reading shape body n i at
@@ -13,28 +16,54 @@ Inv-loop body shape n k i₀ at₀ i at = (i ≤ k) × Reading shape body n i at
 abbrev μ-loop : tie.MeasureT-loop
 μ-loop body shape n k i₀ at₀ i at = k - i
 
+-- src/list.rt:22:5
 loop-holds : tie.Need-loop-holds Inv-loop μ-loop
 loop-holds c = (omega arith, reading-first _ _ _ (c .before .pre .0) (c .before .pre .1))
 
-returns : tie.Need-returns Inv-loop μ-loop
-returns c =
-    let after-m = c .before .before in
-    let after-block = after-m .before .before in
-    let g = after-m .m .given in
-    walking-message _ _ _ _ (g .0 .0) (g .0 .1 .0) (after-block .before .loop .inv .1 .0) (sym (after-block .next-block .ensures) ∙ g .1)
-    ∙ ap (messageOf _ _) (c .if1 .taken)
+-- src/list.rt:23:13
+head-at-requires : tie.Need-head-at-requires Inv-loop μ-loop
+head-at-requires c κs = reading-fits _ _ _ _ _ (c .before .loop .inv .1) (omega arith)
 
+-- src/list.rt:24:14
+add-at : tie.Need-add-at Inv-loop μ-loop
+add-at c =
+    let read = c .before in
+    let f = reading-ahead _ _ _ _ _ (read .before .before .loop .inv .1) (omega arith) (read .head-at .result) (read .head-at .ensures) in
+    omega (arith, f .fits)
+
+-- src/list.rt:24:14
+add-at-2 : tie.Need-add-at-2 Inv-loop μ-loop
+add-at-2 c =
+    let read = c .before .before in
+    let f = reading-ahead _ _ _ _ _ (read .before .before .loop .inv .1) (omega arith) (read .head-at .result) (read .head-at .ensures) in
+    omega (arith, f .fits)
+
+-- src/list.rt:25:9
+add-i : tie.Need-add-i Inv-loop μ-loop
+add-i c = search needs
+
+-- src/list.rt:22:5
+loop-less : tie.Need-loop-less Inv-loop μ-loop
+loop-less c = search needs
+
+-- src/list.rt:22:5
 loop-again : tie.Need-loop-again Inv-loop μ-loop
 loop-again c =
-    let after-m = c .before .before in
-    let after-block = after-m .before .before in
-    let g = after-m .m .given in
-    (omega arith, reading-next _ _ _ _ _ (after-block .before .loop .inv .1) (omega arith) (g .0 .0) (g .0 .1 .0) (sym (after-block .next-block .ensures) ∙ g .1))
+    let read = c .before .before in
+    let f = reading-ahead _ _ _ _ _ (read .before .before .loop .inv .1) (omega arith) (read .head-at .result) (read .head-at .ensures) in
+    (omega arith, f .next)
 
-returns-2 : tie.Need-returns-2 Inv-loop μ-loop
-returns-2 c =
-    let after-block = c .before .before in
-    absurd (reading-whole _ _ _ _ _ (after-block .before .loop .inv .1) (omega arith) _ (sym (after-block .next-block .ensures) ∙ c .enum-told .given .1))
+-- src/list.rt:27:5
+head-at-requires-2 : tie.Need-head-at-requires-2 Inv-loop μ-loop
+head-at-requires-2 c κs = reading-fits _ _ _ _ _ (c .before .loop .inv .1) (omega arith)
+
+-- src/list.rt:16:1
+returns : tie.Need-returns Inv-loop μ-loop
+returns c =
+    let l = c .before .before .loop in
+    let e : l .i ≡ c .before .before .before .before .args .k = omega arith in
+    let f = reading-ahead _ _ _ _ _ (l .inv .1) (omega arith) (c .head-at2 .result) (c .head-at2 .ensures) in
+    f .message ∙ ap (messageOf _ _) e
 
 pub seek-spec : {M : Type 1} → statement M
 seek-spec =
@@ -43,11 +72,11 @@ seek-spec =
     Inv-loop
     μ-loop
     loop-holds
-    (λ c κs. search needs)
-    (λ c. search needs)
-    returns
-    (λ c. search needs)
-    (λ c. search needs)
+    head-at-requires
+    add-at
+    add-at-2
+    add-i
+    loop-less
     loop-again
-    (λ c. search needs)
-    returns-2)
+    head-at-requires-2
+    returns)

@@ -13,7 +13,7 @@ put-block-requires c κs =
     let told = c .before .before in
     let judged = told .before .before in
     let a = judged .before .before .before .args in
-    let f = add-done (a .self) (length (a .buf .now)) (a .time) (length (a .bytes .now)) (told .enum-told .given .0 .0) (sym (judged .judge-add .ensures) ∙ told .enum-told .given .1) in
+    let f = add-done (a .self) (length (a .buf .now)) (a .time) (length (a .bytes .now)) _ (sym (judged .judge-add .ensures) ∙ told .enum-told .given .1) in
     (block-facts (a .self) (length (a .bytes .now)) (f .1) .1, f .4)
 
 returns : tie.Need-returns

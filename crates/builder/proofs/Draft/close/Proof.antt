@@ -1,19 +1,39 @@
-use lib.ListN.{length}
 use Rattle.units.proofs.Numbers.{bytesOf-mod}
 use Rattle.builder.proofs.Drafts.{draft-facts, buf-kept}
 use Rattle.builder.specs.Build.{closeStep, bufAfter}
 use borrow.Author.Tests.{eq-eqb, ne-eqb}
+use lib.ListN.{length}
 use Rattle.units.proofs.Choices.{chosen, skipped}
 use native.Mathlib.Omega.{arith}
 use mathlib.Core.Path.{_≡_, refl, sym, ap, _∙_}
 use borrow.Author.Needs.{needs}
 use Rattle.builder.proofs.Draft.close.Statement.{statement}
 use Rattle.builder.proofs.Draft.close.Tie as tie
+use Rattle.builder.proofs.Draft.close.Reads as reads
+use Rattle.builder.proofs.Draft.close.Lts as lts
+use Rattle.builder.proofs.bad_draft.Reads as bad-draft-reads
+use Rattle.builder.proofs.counts_blocks.Reads as counts-blocks-reads
+use Rattle.builder.proofs.deny.Reads as deny-reads
+use Rattle.units.proofs.put16.Reads as put16-reads
 
+-- src/lib.rt:92:12
+bad-draft-requires : tie.Need-bad-draft-requires
+bad-draft-requires c κs = search needs
+
+-- src/lib.rt:93:13
+deny-requires : tie.Need-deny-requires
+deny-requires c κs = search needs
+
+-- src/lib.rt:93:13
 returns : tie.Need-returns
 unfolding closeStep
 returns c = (c .deny .ensures ∙ chosen _ _ (c .before .before .bad-draft .ensures) (c .before .if1 .taken), buf-kept _ _ _ _ _ _ (c .deny .ensures))
 
+-- src/lib.rt:96:13
+deny-requires-2 : tie.Need-deny-requires-2
+deny-requires-2 c κs = search needs
+
+-- src/lib.rt:96:13
 returns-2 : tie.Need-returns-2
 unfolding closeStep
 returns-2 c = (
@@ -22,6 +42,15 @@ returns-2 c = (
   buf-kept _ _ _ _ _ _ (c .deny2 .ensures),
 )
 
+-- src/lib.rt:98:12
+counts-blocks-requires : tie.Need-counts-blocks-requires
+counts-blocks-requires c κs = search needs
+
+-- src/lib.rt:99:27
+cast-put16 : tie.Need-cast-put16
+cast-put16 c = search needs
+
+-- src/lib.rt:99:13
 put16-requires : tie.Need-put16-requires
 put16-requires c κs =
     let at-else1 = c .before .before .before .before .before .before in
@@ -29,6 +58,11 @@ put16-requires c κs =
     let f = draft-facts (a .self) (length (a .buf .now)) (sym (at-else1 .before .bad-draft .ensures) ∙ at-else1 .if1 .left) in
     omega (arith, f .0, f .1)
 
+-- src/lib.rt:88:5
+same-length : tie.Need-same-length
+same-length c = search needs
+
+-- src/lib.rt:88:5
 returns-3 : tie.Need-returns-3
 unfolding closeStep bufAfter
 returns-3 c =
@@ -36,31 +70,35 @@ returns-3 c =
     let at-then3 = put .before .before .before in
     let at-else2 = at-then3 .before .before in
     let at-else1 = at-else2 .before .before in
-    let d = at-else1 .before .before .before .args .self in (
+    let d = at-else1 .before .before .before .args .self in
+    let counted = sym (at-then3 .before .counts-blocks .ensures) ∙ at-then3 .if3 .taken in (
       skipped _ _ _ (at-else1 .before .bad-draft .ensures) (at-else1 .if1 .left) (skipped _ _ _ refl (ne-eqb _ _ (at-else2 .if2 .left)) refl),
-      put .put16 .ensures ∙ simp (bytesOf-mod 2 (d .blocks), eq-eqb _ _ (at-then3 .if3 .taken)),
+      put .put16 .ensures ∙ simp (bytesOf-mod 2 (d .blocks), counted),
     )
 
+-- src/lib.rt:88:5
 returns-4 : tie.Need-returns-4
 unfolding closeStep bufAfter
 returns-4 c =
     let at-else2 = c .before .before in
-    let at-else1 = at-else2 .before .before in (
+    let at-else1 = at-else2 .before .before in
+    let counted = sym (c .before .counts-blocks .ensures) ∙ c .if3 .left in (
       skipped _ _ _ (at-else1 .before .bad-draft .ensures) (at-else1 .if1 .left) (skipped _ _ _ refl (ne-eqb _ _ (at-else2 .if2 .left)) refl),
-      simp (ne-eqb _ _ (c .if3 .left)),
+      simp counted,
     )
 
 pub close-spec : {M : Type 1} → statement M
 close-spec =
     tie.close
     (tie.spec
-    (λ c κs. search needs)
-    (λ c κs. search needs)
+    bad-draft-requires
+    deny-requires
     returns
-    (λ c κs. search needs)
+    deny-requires-2
     returns-2
-    (λ c. search needs)
+    counts-blocks-requires
+    cast-put16
     put16-requires
-    (λ c. search needs)
+    same-length
     returns-3
     returns-4)
