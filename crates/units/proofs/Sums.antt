@@ -6,7 +6,7 @@ use mathlib.Core.Logic.{_≢_}
 use Prim.Native.Nat.{ℕ, zero, suc, _+_, _-_, _*_, _/_, _%_, _^_, _≤_, _<_}
 use native.Mathlib.Omega.{arith}
 use native.Mathlib.Decide.{decLt}
-use native.Mathlib.Nat.{zero-add, add-zero, add-left-comm, mul-zero, mul-suc, mod-one, mod-lt, mod-eq-of-lt, mod-add-mod, add-mul-mod-self-left, div-add-mod, suc-add, le-dest, mul-le-mul-left}
+use native.Mathlib.Nat.{zero-add, add-zero, add-left-comm, mul-zero, mul-suc, mod-one, zero-mod, mod-lt, mod-eq-of-lt, mod-add-mod, add-mul-mod-self-left, div-add-mod, suc-add, le-dest, mul-le-mul-left}
 use native.Mathlib.Numerals.{add-one}
 use lib.Dec.{eqb}
 use lib.ListN.{length, take, drop, length-append, length-drop, take-append-drop}
@@ -39,9 +39,24 @@ sum-snoc w (suc k) bs =
     rw (← d) (omega arith)
 
 -- a turn of a loop that adds modulo 256 ^ w
-pub sum-step : (w k : ℕ) (bs : List ℕ) (acc x : ℕ) → acc ≡ checksum w k bs → x ≡ field bs (w * k) w
+sum-step : (w k : ℕ) (bs : List ℕ) (acc x : ℕ) → acc ≡ checksum w k bs → x ≡ field bs (w * k) w
     → (acc + x) % 256 ^ w ≡ checksum w (k + 1) bs
 sum-step w k bs acc x e f = rw (add-one, sum-snoc, e, f) (mod-add-mod (sumUnits w k bs) (256 ^ w) (field bs (w * k) w))
+
+-- a loop that adds up n units: k of them are added
+abbrev pub Summing : ℕ → List ℕ → ℕ → ℕ → ℕ → Type 0
+Summing w bs n k acc = (k ≤ n) × (acc ≡ checksum w k bs)
+
+pub summing-first : (w : ℕ) (bs : List ℕ) (n : ℕ) → Summing w bs n 0 0
+unfolding sumUnits
+summing-first w bs n = (omega arith, sym (zero-mod (256 ^ w)))
+
+pub summing-next : (w : ℕ) (bs : List ℕ) (n k acc x sum : ℕ) → Summing w bs n k acc → k < n → x ≡ field bs (w * k) w → sum ≡ (acc + x) % 256 ^ w
+    → Summing w bs n (k + 1) sum
+summing-next w bs n k acc x sum s more is e = (omega arith, e ∙ sum-step w k bs acc x (s .1) is)
+
+pub summing-last : (w : ℕ) (bs : List ℕ) (n k acc : ℕ) → Summing w bs n k acc → n ≤ k → acc ≡ checksum w n bs
+summing-last w bs n k acc s ends = let e : k ≡ n = omega (arith, s .0) in rw (← e) (s .1)
 
 pub sum-append : (w j k : ℕ) (xs ys : List ℕ) → length xs ≡ w * j → sumUnits w (j + k) (xs ++ ys) ≡ sumUnits w j xs + sumUnits w k ys
 unfolding sumUnits

@@ -1,33 +1,23 @@
 use native.Mathlib.Omega.{arith}
-use mathlib.Core.Path.{_≡_, refl, _∙_}
-use Prim.Native.Nat.{_≤_, _-_, _%_, _^_}
-use lib.ListN.{getD}
-use Rattle.units.specs.Units.{sumUnits}
-use Rattle.units.proofs.Sums.{sum-step}
+use Prim.Native.Nat.{_-_}
+use Rattle.units.proofs.Sums.{Summing, summing-first, summing-next, summing-last}
 use Rattle.units.proofs.sum32.Statement.{statement}
 use Rattle.units.proofs.sum32.Tie as tie
 
 abbrev Inv-loop : tie.InvT-loop
-Inv-loop s n acc₀ k₀ acc k = (k ≤ n) × (acc ≡ sumUnits 4 k s % 256 ^ 4)
+Inv-loop s n acc₀ k₀ acc k = Summing 4 s n k acc
 
 abbrev μ-loop : tie.MeasureT-loop
 μ-loop s n acc₀ k₀ acc k = n - k
-
-loop-holds : tie.Need-loop-holds Inv-loop μ-loop
-unfolding sumUnits
-loop-holds c = (omega arith, refl)
 
 loop-again : tie.Need-loop-again Inv-loop μ-loop
 loop-again c =
     let a = c .before .before .before .before .before .args in
     let l = c .before .before .before .loop in
-    (omega arith, c .wrapping-add-u32 .ensures ∙ sum-step 4 (l .k) (a .s .now) (l .acc) (c .before .read32 .result) (l .inv .1) (c .before .read32 .ensures))
+    summing-next 4 (a .s .now) (a .n) (l .k) (l .acc) (c .before .read32 .result) _ (l .inv) (omega arith) (c .before .read32 .ensures) (c .wrapping-add-u32 .ensures)
 
 returns : tie.Need-returns Inv-loop μ-loop
-returns c =
-    let l = c .before .loop in
-    let e : l .k ≡ c .before .before .before .args .n = omega arith in
-    rw (← e) (l .inv .1)
+returns c = let l = c .before .loop in summing-last 4 _ _ (l .k) (l .acc) (l .inv) (omega arith)
 
 pub sum32-spec : {M : Type 1} → statement M
 sum32-spec =
@@ -35,7 +25,7 @@ sum32-spec =
     (tie.spec
     Inv-loop
     μ-loop
-    loop-holds
+    (λ c. summing-first 4 _ _)
     (λ c. omega arith)
     (λ c κs. omega arith)
     (λ c κs. tt)
