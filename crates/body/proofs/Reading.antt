@@ -1,16 +1,16 @@
 -- Laws for the loops over a body that is known to have n messages, and for lists that are filled from the front. Assumes nothing.
 use mathlib.Core.Path.{_≡_, refl, sym, ap, _∙_}
-use mathlib.Core.List.{List, [], _∷_, _++_, append-assoc}
+use mathlib.Core.List.{List, append-assoc}
 use mathlib.Core.Bool.{Bool, true, false}
-use Prim.Native.Nat.{ℕ, zero, suc, _+_, _-_, _%_, _^_, _≤_, _<_, min}
+use Prim.Native.Nat.{ℕ, zero, suc, _+_, _-_, _^_, _≤_, _<_, min}
 use native.Mathlib.Omega.{arith}
 use native.Mathlib.Numerals.{add-one}
-use lib.ListN.{length, drop, getD, set, length-append, length-drop}
+use lib.ListN.{length, drop, getD, set, length-append}
 use lib.Seq.{drop-cons, set-at}
-use lib.Dec.{leb, eqb}
+use lib.Dec.{eqb}
 use borrow.Author.Tests.{eqb-true, le-leb, lt-leb, lt-ltb, le-ltb}
 use Rattle.units.specs.Choice.{pick}
-use Rattle.body.specs.Walk.{fault, openBody, stampLength, headAt, blockEnd, blockAt, spot, stopAt, ending, walkFrom, walk}
+use Rattle.body.specs.Walk.{fault, openBody, stampLength, headAt, blockEnd, blockAt, stopAt, ending, walkFrom, walk}
 use Rattle.body.specs.Answers.{checkBody, messageOf, messageOpened, messageIn, pickCounted, messageAt, tab, filled, listCounted, listOf}
 use Rattle.body.specs.declared.Refusal.{Refusal}
 use Rattle.body.specs.declared.Shape.{Shape}
@@ -23,7 +23,6 @@ use Rattle.body.specs.declared.Block.the-variants.{Found, Broken}
 use Rattle.body.specs.declared.Checked.{Checked}
 use Rattle.body.specs.declared.Checked.the-variants.{Counted, Faulty}
 use Rattle.body.specs.declared.Picked.the-variants.{One, Missing}
-use Rattle.body.specs.declared.Listed.{Listed}
 use Rattle.body.specs.declared.Listed.the-variants.{Count, Unlisted, NoRoom}
 use Rattle.body.proofs.Walking.{stands, Walking, walking-first, walking-next, walk-stop, walk-broken, walk-found}
 

@@ -1,18 +1,18 @@
 -- Laws of a block and of the walk, on plain values. Assumes nothing.
 use mathlib.Core.Path.{_≡_, refl, sym, ap, _∙_}
 use mathlib.Core.List.{List}
-use mathlib.Core.Bool.{Bool, true, false, not, _&&_}
-use Prim.Native.Nat.{ℕ, zero, suc, _+_, _-_, _%_, _^_, _≤_, _<_}
+use mathlib.Core.Bool.{Bool, true, false, not}
+use Prim.Native.Nat.{ℕ, zero, suc, _+_, _-_, _%_, _≤_, _<_}
 use native.Mathlib.Omega.{arith}
 use native.Mathlib.Numerals.{add-one}
 use lib.ListN.{length}
 use lib.Dec.{ltb, leb, eqb}
-use borrow.Author.Tests.{ltb-false, eqb-false, not-false, le-leb, lt-leb, lt-ltb, le-ltb, eq-eqb, ne-eqb}
+use borrow.Author.Tests.{ltb-false, eqb-false, not-false, lt-leb, le-ltb, eq-eqb, ne-eqb}
 use Rattle.units.specs.Units.{part, field, zeros}
 use Rattle.units.specs.Choice.{pick}
 use Rattle.units.proofs.Choices.{passed}
 use Rattle.body.specs.Times.{timeOk}
-use Rattle.body.specs.Walk.{fault, opens, messageShape, uartShape, openBody, stampLength, headAt, blockEnd, judge, blockAt, behind, spot, stopAt, ending, after, walkFrom, walk}
+use Rattle.body.specs.Walk.{fault, opens, messageShape, uartShape, openBody, stampLength, headAt, blockEnd, judge, blockAt, spot, stopAt, ending, after, walkFrom, walk}
 use Rattle.body.specs.declared.TimeRule.{TimeRule}
 use Rattle.body.specs.declared.Refusal.{Refusal}
 use Rattle.body.specs.declared.Shape.{Shape}
@@ -21,7 +21,6 @@ use Rattle.body.specs.declared.Opened.the-variants.{Carried, Shaped, Wro
 use Rattle.body.specs.declared.Message.{Message}
 use Rattle.body.specs.declared.Block.{Block}
 use Rattle.body.specs.declared.Block.the-variants.{Found, Broken}
-use Rattle.body.specs.declared.Checked.{Checked}
 use Rattle.body.specs.declared.Checked.the-variants.{Counted, Faulty}
 
 -- ---- one block

@@ -11,12 +11,12 @@ use lib.ListN.{length, take, getD, replicate, length-append, length-replicate}
 use lib.Seq.{append-snoc, take-add, take-length, length-take-le}
 use lib.Dec.{ltb, leb, eqb}
 use borrow.Author.Tests.{ltb-true, leb-true, leb-false, le-leb, lt-leb, lt-ltb, ne-eqb}
-use Rattle.units.specs.Units.{Bytes, part, field, num, bytesOf, zeros}
+use Rattle.units.specs.Units.{Bytes, part, field, num, bytesOf}
 use Rattle.units.specs.Choice.{pick}
 use Rattle.units.proofs.Numbers.{length-bytesOf, num-bytesOf, zeros-replicate, zeros-are}
 use Rattle.units.proofs.Parts.{length-part, part-at, field-lt, bytesOf-field}
 use Rattle.units.proofs.Choices.{picked, passed, and-true}
-use Rattle.body.specs.Walk.{opens, counterOk, messageShape, uartShape, openBody, stampLength, headAt, blockAt, spot, stopAt, walk}
+use Rattle.body.specs.Walk.{opens, counterOk, messageShape, uartShape, openBody, stampLength, headAt, blockAt, stopAt, walk}
 use Rattle.body.specs.Answers.{checkOpened, checkBody, messageOf, messageIn, tab}
 use Rattle.body.specs.Blocks.{Entry, noEntry, blockBytes, Fits, AllFit, blocksBytes, messageOn, entryAt, entriesIn, BodyOf}
 use Rattle.body.specs.declared.TimeRule.{TimeRule}

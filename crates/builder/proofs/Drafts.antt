@@ -13,7 +13,7 @@ use Rattle.units.proofs.Numbers.{length-bytesOf}
 use Rattle.units.proofs.Writes.{chain}
 use Rattle.units.proofs.Choices.{passed, or-false}
 use Rattle.body.specs.Walk.{stampLength, blockSize}
-use Rattle.body.specs.Blocks.{Entry, blockBytes}
+use Rattle.body.specs.Blocks.{blockBytes}
 use Rattle.body.specs.declared.Refusal.{Refusal}
 use Rattle.builder.specs.Build.{counts, makes, badDraft, denied, openStep, badBlock, badTime, strayTime, grown, added, addStep, entryOf, closeStep, told, bufAfter}
 use Rattle.builder.specs.declared.Draft.{Draft}

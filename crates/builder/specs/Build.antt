@@ -1,6 +1,6 @@
 -- The body builder (document 01, "Builder"): what each step says, the state it hands back, and the bytes it leaves in its buffer.
-use mathlib.Core.List.{List, [], _∷_, _++_}
-use mathlib.Core.Bool.{Bool, true, false, not, _&&_, _||_}
+use mathlib.Core.List.{List, []}
+use mathlib.Core.Bool.{Bool, not, _&&_, _||_}
 use Prim.Native.Nat.{ℕ, _+_, _*_, _%_, _^_}
 use lib.ListN.{length}
 use lib.Dec.{ltb, leb, eqb}

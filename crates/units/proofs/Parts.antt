@@ -1,10 +1,9 @@
 -- Laws of parts and fields. Assumes nothing.
-use mathlib.Core.Path.{_≡_, refl, sym, ap, _∙_, subst}
+use mathlib.Core.Path.{_≡_, refl, sym, ap, subst}
 use mathlib.Core.List.{List, [], _∷_, _++_}
 use Prim.Native.Nat.{ℕ, zero, suc, _+_, _-_, _*_, _^_, _≤_, _<_}
 use native.Mathlib.Omega.{arith}
-use native.Mathlib.Nat.{zero-add, add-zero, one-mul, pow-succ', mul-assoc, suc-sub-suc, zero-sub, sub-zero, suc-add}
-use lib.Dec.{lit<}
+use native.Mathlib.Nat.{zero-add, add-zero, pow-succ', mul-assoc, suc-sub-suc, zero-sub, sub-zero, suc-add}
 use lib.ListN.{length, take, drop, getD, length-take, length-drop}
 use lib.Seq.{take-take, drop-drop, take-append-le, drop-append-le, drop-append-add, take-at, drop-at, take-nil, drop-nil}
 use Rattle.units.specs.Units.{Bytes, part, num, field, bytesOf}

@@ -1,13 +1,13 @@
 -- Laws of what is written: `splice`, runs of writes, and a loop that writes a byte a turn. Assumes nothing.
 use mathlib.Core.Path.{_≡_, refl, sym, ap, _∙_}
-use mathlib.Core.List.{List, [], _∷_, _++_, append-assoc, append-nil}
+use mathlib.Core.List.{List, [], _++_, append-assoc, append-nil}
 use Prim.Native.Nat.{ℕ, _+_, _-_, _%_, _/_, _^_, _≤_, _<_}
 use native.Mathlib.Omega.{arith}
 use native.Mathlib.Nat.{add-assoc, add-zero}
 use native.Mathlib.Numerals.{add-one}
 use lib.ListN.{length, take, drop, getD, set, length-append, length-take, length-drop, take-append-drop}
 use lib.Seq.{paste, paste-suc, take-length, sets, sets-eq, length-take-le, take-take, drop-drop, take-add, drop-append-le, take-at, drop-at}
-use Rattle.units.specs.Units.{part, num, field, bytesOf, splice}
+use Rattle.units.specs.Units.{part, bytesOf, splice}
 use Rattle.units.proofs.Numbers.{length-bytesOf, bytesOf-add, bytesOf-mod}
 use Rattle.units.proofs.Parts.{part-front}
 

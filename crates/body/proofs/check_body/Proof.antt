@@ -1,6 +1,6 @@
 use Rattle.body.proofs.Walking.{open-long}
 use Rattle.body.specs.Answers.{checkBody}
-use mathlib.Core.Path.{_≡_, refl, sym, ap, _∙_}
+use mathlib.Core.Path.{sym, _∙_}
 use borrow.Author.Needs.{needs}
 use Rattle.body.proofs.check_body.Statement.{statement}
 use Rattle.body.proofs.check_body.Tie as tie

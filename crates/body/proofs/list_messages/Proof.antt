@@ -1,9 +1,9 @@
 use Rattle.body.proofs.Walking.{open-long}
 use Rattle.body.specs.declared.Listed.the-variants.{Unlisted}
 use Rattle.body.proofs.Reading.{messages-shaped, list-room, list-faulty}
-use Rattle.body.specs.Answers.{checkBody, filled, tab, listCounted, listOf, listAfter}
+use Rattle.body.specs.Answers.{checkBody, filled, tab, listOf, listAfter}
 use native.Mathlib.Omega.{arith}
-use mathlib.Core.Path.{_≡_, refl, sym, ap, _∙_}
+use mathlib.Core.Path.{refl, sym, ap, _∙_}
 use borrow.Author.Needs.{needs}
 use Rattle.body.proofs.list_messages.Statement.{statement}
 use Rattle.body.proofs.list_messages.Tie as tie

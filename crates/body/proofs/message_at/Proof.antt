@@ -2,7 +2,7 @@ use native.Mathlib.Omega.{arith}
 use borrow.Author.Tests.{le-ltb}
 use Rattle.body.proofs.Walking.{open-long}
 use Rattle.body.specs.Answers.{checkBody, messageIn, pickCounted, messageAt}
-use mathlib.Core.Path.{_≡_, refl, sym, ap, _∙_}
+use mathlib.Core.Path.{sym, _∙_}
 use borrow.Author.Needs.{needs}
 use Rattle.body.proofs.message_at.Statement.{statement}
 use Rattle.body.proofs.message_at.Tie as tie

@@ -3,7 +3,7 @@ use Rattle.builder.specs.Build.{added, addStep}
 use borrow.Author.Tests.{lt-ltb, le-ltb}
 use Rattle.units.proofs.Choices.{chosen, skipped}
 use native.Mathlib.Omega.{arith}
-use mathlib.Core.Path.{_≡_, refl, sym, ap, _∙_}
+use mathlib.Core.Path.{refl, sym, _∙_}
 use borrow.Author.Needs.{needs}
 use Rattle.builder.proofs.judge_add.Statement.{statement}
 use Rattle.builder.proofs.judge_add.Tie as tie

@@ -1,6 +1,5 @@
 use Rattle.units.proofs.Choices.{chosen, skipped}
-use mathlib.Core.Path.{_≡_, refl, sym, ap, _∙_}
-use borrow.Author.Needs.{needs}
+use mathlib.Core.Path.{refl}
 use Rattle.builder.proofs.open_word.Statement.{statement}
 use Rattle.builder.proofs.open_word.Tie as tie
 

@@ -1,7 +1,7 @@
 use Prim.Native.Nat.{ℕ, _+_}
 use Rattle.builder.proofs.Drafts.{block-put}
 use native.Mathlib.Omega.{arith}
-use mathlib.Core.Path.{_≡_, refl, sym, ap, _∙_}
+use mathlib.Core.Path.{ap}
 use borrow.Author.Needs.{needs}
 use Rattle.builder.proofs.put_block.Statement.{statement}
 use Rattle.builder.proofs.put_block.Tie as tie

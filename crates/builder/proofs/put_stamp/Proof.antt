@@ -2,7 +2,7 @@ use Rattle.units.proofs.Writes.{splice-none}
 use Rattle.units.specs.Units.{bytesOf}
 use Rattle.body.specs.Walk.{stampLength}
 use native.Mathlib.Omega.{arith}
-use mathlib.Core.Path.{_≡_, refl, sym, ap, _∙_}
+use mathlib.Core.Path.{_≡_, sym, _∙_}
 use borrow.Author.Needs.{needs}
 use Rattle.builder.proofs.put_stamp.Statement.{statement}
 use Rattle.builder.proofs.put_stamp.Tie as tie

@@ -1,8 +1,7 @@
 use native.Mathlib.Omega.{arith}
-use mathlib.Core.Path.{_≡_, refl, sym, _∙_}
-use Prim.Native.Nat.{ℕ, _≤_, _<_, _-_, _+_}
-use lib.ListN.{length, length-set, getD, replicate, length-replicate, getD-replicate}
-use lib.Seq.{paste, paste-zero}
+use mathlib.Core.Path.{_≡_, sym}
+use Prim.Native.Nat.{ℕ, _≤_, _<_, _-_}
+use lib.ListN.{length, getD}
 use borrow.Author.Count.{below-more}
 use Rattle.units.proofs.Numbers.{zeros-true, zeros-false}
 use Rattle.units.proofs.all_zero.Statement.{statement}

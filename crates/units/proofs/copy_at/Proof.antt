@@ -1,7 +1,7 @@
 use native.Mathlib.Omega.{arith}
-use mathlib.Core.Path.{_≡_, refl, sym, _∙_}
-use Prim.Native.Nat.{ℕ, _≤_, _<_, _-_, _+_}
-use lib.ListN.{length, length-set, getD, replicate, length-replicate, getD-replicate}
+use mathlib.Core.Path.{_≡_, refl, _∙_}
+use Prim.Native.Nat.{_≤_, _-_}
+use lib.ListN.{length, length-set, getD}
 use lib.Seq.{paste, paste-zero}
 use Rattle.units.proofs.Writes.{paste-step, paste-whole}
 use Rattle.units.proofs.copy_at.Statement.{statement}

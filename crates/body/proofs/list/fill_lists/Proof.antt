@@ -2,9 +2,9 @@ use Rattle.body.proofs.Reading.{Reading, reading-first, reading-fits, r
 use Rattle.body.specs.Answers.{messageOf, tab, filled, startsOf, lengthsOf}
 use Rattle.body.specs.declared.Message.{Message}
 use lib.ListN.{length}
-use Prim.Native.Nat.{ℕ, _≤_, _<_, _-_, _+_}
+use Prim.Native.Nat.{_≤_, _-_, _+_}
 use native.Mathlib.Omega.{arith}
-use mathlib.Core.Path.{_≡_, refl, sym, ap, _∙_}
+use mathlib.Core.Path.{_≡_, refl, ap}
 use borrow.Author.Needs.{needs}
 use Rattle.body.proofs.list.fill_lists.Statement.{statement}
 use Rattle.body.proofs.list.fill_lists.Tie as tie

@@ -1,7 +1,7 @@
 use Rattle.body.proofs.Reading.{list-short, list-room, list-faulty}
 use Rattle.body.specs.Answers.{listAfter}
 use native.Mathlib.Omega.{arith}
-use mathlib.Core.Path.{_≡_, refl, sym, ap, _∙_}
+use mathlib.Core.Path.{refl, sym, _∙_}
 use borrow.Author.Needs.{needs}
 use Rattle.body.proofs.list.list_shape.Statement.{statement}
 use Rattle.body.proofs.list.list_shape.Tie as tie

@@ -1,6 +1,6 @@
 use Rattle.body.specs.Answers.{pickCounted}
 use borrow.Author.Tests.{lt-ltb, le-ltb}
-use mathlib.Core.Path.{_≡_, refl, sym, ap, _∙_}
+use mathlib.Core.Path.{sym, _∙_}
 use borrow.Author.Needs.{needs}
 use Rattle.body.proofs.list.pick_message.Statement.{statement}
 use Rattle.body.proofs.list.pick_message.Tie as tie

@@ -1,8 +1,8 @@
 use Rattle.body.specs.Answers.{messageOf}
 use Rattle.body.proofs.Reading.{Reading, reading-first, reading-fits, reading-ahead}
-use Prim.Native.Nat.{ℕ, _≤_, _<_, _-_, _+_}
+use Prim.Native.Nat.{_≤_, _-_}
 use native.Mathlib.Omega.{arith}
-use mathlib.Core.Path.{_≡_, refl, sym, ap, _∙_}
+use mathlib.Core.Path.{_≡_, ap, _∙_}
 use borrow.Author.Needs.{needs}
 use Rattle.body.proofs.list.seek.Statement.{statement}
 use Rattle.body.proofs.list.seek.Tie as tie

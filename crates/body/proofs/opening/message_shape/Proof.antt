@@ -2,7 +2,7 @@ use Prim.Native.Nat.{_/_, _%_, _^_}
 use Rattle.body.specs.Walk.{counterOk, messageShape}
 use lib.Dec.{ltb}
 use mathlib.Core.Bool.{true, false, _&&_}
-use mathlib.Core.Path.{_≡_, refl, sym, ap, _∙_}
+use mathlib.Core.Path.{_≡_, refl}
 use borrow.Author.Tests.{eq-eqb, ne-eqb, not-true, not-false}
 use borrow.Author.Needs.{needs}
 use Rattle.body.proofs.opening.message_shape.Statement.{statement}

@@ -1,7 +1,7 @@
 use mathlib.Core.Bool.{false, not}
 use Rattle.body.specs.Walk.{opens, openBody}
-use mathlib.Core.Path.{_≡_, refl, sym, ap, _∙_}
-use borrow.Author.Tests.{le-leb, lt-leb, lt-ltb, le-ltb, eq-eqb, ne-eqb, not-true, not-false}
+use mathlib.Core.Path.{_≡_, sym, _∙_}
+use borrow.Author.Tests.{lt-ltb, le-ltb, eq-eqb, ne-eqb}
 use borrow.Author.Needs.{needs}
 use Rattle.body.proofs.opening.open_body.Statement.{statement}
 use Rattle.body.proofs.opening.open_body.Tie as tie

@@ -1,6 +1,5 @@
 use Rattle.body.specs.Walk.{uartShape}
-use borrow.Author.Tests.{le-leb, lt-leb, lt-ltb, le-ltb, eq-eqb, ne-eqb, not-true, not-false}
-use borrow.Author.Needs.{needs}
+use borrow.Author.Tests.{eq-eqb, ne-eqb}
 use Rattle.body.proofs.opening.uart_shape.Statement.{statement}
 use Rattle.body.proofs.opening.uart_shape.Tie as tie
 

@@ -2,9 +2,9 @@ use Rattle.body.proofs.Walking.{Counting, counting-first, counting-stop
 use Rattle.body.specs.declared.Checked.the-variants.{Faulty}
 use borrow.Author.Tests.{not-true, not-false}
 use lib.ListN.{length}
-use Prim.Native.Nat.{ℕ, _≤_, _<_, _-_, _+_}
+use Prim.Native.Nat.{_-_}
 use native.Mathlib.Omega.{arith}
-use mathlib.Core.Path.{_≡_, refl, sym, ap, _∙_}
+use mathlib.Core.Path.{sym, ap, _∙_}
 use borrow.Author.Needs.{needs}
 use Rattle.body.proofs.walk.count_blocks.Statement.{statement}
 use Rattle.body.proofs.walk.count_blocks.Tie as tie

@@ -2,7 +2,7 @@ use Rattle.units.specs.Units.{num}
 use native.Mathlib.Nat.{add-zero}
 use Rattle.body.specs.Walk.{stampLength, headAt}
 use native.Mathlib.Omega.{arith}
-use mathlib.Core.Path.{_≡_, refl, sym, ap, _∙_}
+use mathlib.Core.Path.{_≡_}
 use borrow.Author.Needs.{needs}
 use Rattle.body.proofs.walk.head_at.Statement.{statement}
 use Rattle.body.proofs.walk.head_at.Tie as tie

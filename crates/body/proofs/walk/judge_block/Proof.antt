@@ -4,8 +4,8 @@ use Rattle.body.specs.Times.{timeOk}
 use Rattle.units.specs.Units.{part, zeros}
 use Rattle.body.specs.Walk.{judge}
 use native.Mathlib.Omega.{arith}
-use mathlib.Core.Path.{_≡_, refl, sym, ap, _∙_}
-use borrow.Author.Tests.{le-leb, lt-leb, lt-ltb, le-ltb, eq-eqb, ne-eqb, not-true, not-false}
+use mathlib.Core.Path.{_≡_, sym, _∙_}
+use borrow.Author.Tests.{lt-ltb, le-ltb, eq-eqb, ne-eqb, not-true, not-false}
 use borrow.Author.Needs.{needs}
 use Rattle.body.proofs.walk.judge_block.Statement.{statement}
 use Rattle.body.proofs.walk.judge_block.Tie as tie

@@ -1,8 +1,8 @@
 use Rattle.body.specs.declared.Message.{Message}
 use Rattle.body.specs.Walk.{headAt, blockAt}
 use native.Mathlib.Omega.{arith}
-use mathlib.Core.Path.{_≡_, refl, sym, ap, _∙_}
-use borrow.Author.Tests.{le-leb, lt-leb, lt-ltb, le-ltb, eq-eqb, ne-eqb, not-true, not-false}
+use mathlib.Core.Path.{ap, _∙_}
+use borrow.Author.Tests.{le-leb, lt-leb, lt-ltb, le-ltb}
 use borrow.Author.Needs.{needs}
 use Rattle.body.proofs.walk.next_block.Statement.{statement}
 use Rattle.body.proofs.walk.next_block.Tie as tie

@@ -1,5 +1,4 @@
 use Rattle.body.specs.Walk.{stopAt}
-use borrow.Author.Needs.{needs}
 use Rattle.body.proofs.walk.stop_at.Statement.{statement}
 use Rattle.body.proofs.walk.stop_at.Tie as tie
 

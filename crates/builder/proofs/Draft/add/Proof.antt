@@ -1,8 +1,7 @@
 use lib.ListN.{length}
 use Rattle.builder.proofs.Drafts.{block-facts, add-done, buf-kept, buf-put}
 use Rattle.builder.specs.Build.{grown}
-use native.Mathlib.Omega.{arith}
-use mathlib.Core.Path.{_≡_, refl, sym, ap, _∙_}
+use mathlib.Core.Path.{sym, _∙_}
 use borrow.Author.Needs.{needs}
 use Rattle.builder.proofs.Draft.add.Statement.{statement}
 use Rattle.builder.proofs.Draft.add.Tie as tie

@@ -3,8 +3,7 @@ use Rattle.builder.proofs.Drafts.{buf-kept}
 use Rattle.builder.specs.Build.{openStep, bufAfter}
 use borrow.Author.Tests.{lt-ltb, le-ltb}
 use Rattle.units.proofs.Choices.{chosen, skipped}
-use native.Mathlib.Omega.{arith}
-use mathlib.Core.Path.{_≡_, refl, sym, ap, _∙_}
+use mathlib.Core.Path.{refl, ap, _∙_}
 use borrow.Author.Needs.{needs}
 use Rattle.builder.proofs.Draft.open.Statement.{statement}
 use Rattle.builder.proofs.Draft.open.Tie as tie
