@@ -3,7 +3,7 @@
 ghost use mathlib.Core.Path.{_≡_};
 ghost use Prim.Native.Nat.{_+_, _≤_, _^_};
 ghost use lib.ListN.{length};
-ghost use Rattle.body.specs.Walk.{openBody, refused, fault};
+ghost use Rattle.body.specs.Walk.{refused, fault};
 ghost use Rattle.body.specs.Answers.{checkBody, messageAt, listOf, messageIn, listAfter, startsOf, lengthsOf};
 
 mod list;

@@ -6,7 +6,7 @@ ghost use lib.ListN.{length};
 ghost use Rattle.units.specs.Units.{bytesOf, splice};
 ghost use Rattle.body.specs.Blocks.{blockBytes};
 ghost use Rattle.body.specs.Walk.{stampLength, blockSize};
-ghost use Rattle.builder.specs.Build.{stamped, counts, makes, badDraft, freshDraft, denied, openStep, openWord, badBlock, badTime, strayTime, grown, added, addStep, entryOf, closeStep, counterBytes, bufAfter};
+ghost use Rattle.builder.specs.Build.{stamped, counts, makes, badDraft, freshDraft, denied, openStep, openWord, badBlock, badTime, strayTime, grown, addStep, entryOf, closeStep, counterBytes, bufAfter};
 use body::Refusal;
 use body::refuse;
 use body::time::rule_of;
