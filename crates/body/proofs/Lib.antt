@@ -2,3 +2,4 @@ pub mod Walking
 pub mod Reading
 pub mod Blocks
 pub mod Whole
+pub mod Exactly

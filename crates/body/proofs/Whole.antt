@@ -1,14 +1,13 @@
--- A body is accepted exactly if it is its channel word and the blocks that are reported. Assumes nothing.
+-- The walk and the blocks: what is laid out in blocks is walked, and what is walked is laid out in blocks. Assumes nothing.
 use mathlib.Core.Path.{_≡_, refl, sym, ap, _∙_, subst}
 use mathlib.Core.List.{List, [], _∷_, _++_, append-assoc, append-nil}
 use mathlib.Core.Bool.{Bool, true, false, not, _&&_}
-use mathlib.Core.Logic.{_↔_}
 use Prim.Native.Nat.{ℕ, zero, suc, _+_, _%_, _/_, _^_, _≤_, _<_}
 use native.Mathlib.Omega.{arith}
 use native.Mathlib.Numerals.{add-one}
-use native.Mathlib.Nat.{add-zero, zero-add}
+use native.Mathlib.Nat.{add-zero}
 use lib.ListN.{length, take, getD, replicate, length-append, length-replicate}
-use lib.Seq.{append-snoc, take-add, take-length, length-take-le}
+use lib.Seq.{append-snoc, take-add, take-length}
 use lib.Dec.{ltb, leb, eqb}
 use borrow.Author.Tests.{ltb-true, leb-true, leb-false, le-leb, lt-leb, lt-ltb, ne-eqb}
 use Rattle.units.specs.Units.{Bytes, part, field, num, bytesOf}
@@ -17,8 +16,8 @@ use Rattle.units.proofs.Numbers.{length-bytesOf, num-bytesOf, zeros-replicate, 
 use Rattle.units.proofs.Parts.{length-part, part-at, field-lt, bytesOf-field}
 use Rattle.units.proofs.Choices.{picked, passed, and-true}
 use Rattle.body.specs.Walk.{opens, counterOk, messageShape, uartShape, openBody, stampLength, headAt, blockAt, stopAt, walk}
-use Rattle.body.specs.Answers.{checkOpened, checkBody, messageOf, messageIn, tab}
-use Rattle.body.specs.Blocks.{Entry, noEntry, blockBytes, Fits, AllFit, blocksBytes, messageOn, entryAt, entriesIn, BodyOf}
+use Rattle.body.specs.Answers.{messageOf, tab}
+use Rattle.body.specs.Blocks.{Entry, noEntry, blockBytes, Fits, AllFit, blocksBytes, messageOn, entryAt}
 use Rattle.body.specs.declared.TimeRule.{TimeRule}
 use Rattle.body.specs.declared.Shape.{Shape}
 use Rattle.body.specs.declared.Opened.{Opened}
@@ -28,11 +27,11 @@ use Rattle.body.specs.declared.Block.{Block}
 use Rattle.body.specs.declared.Block.the-variants.{Found, Broken}
 use Rattle.body.specs.declared.Checked.the-variants.{Counted}
 use Rattle.body.proofs.Blocks.{length-blockBytes, blocks-snoc, fit-snoc}
-use Rattle.body.proofs.Walking.{Stands, stands, stands-found, found-next, Walking, Counting, counting-first, counting-stop, counting-next, ending-exact, open-long}
-use Rattle.body.proofs.Reading.{Reading, reading-first, reading-end, reading-block, reading-step, walking-message, message-shaped, length-tab, tab-ext}
+use Rattle.body.proofs.Walking.{Stands, stands, stands-found, found-next, Walking, Counting, counting-stop, counting-next, ending-exact}
+use Rattle.body.proofs.Reading.{Reading, reading-end, reading-block, reading-step, walking-message, length-tab}
 
 -- the k-th block of a body of this shape
-abbrev entryOn : Shape → List ℕ → ℕ → Entry
+abbrev pub entryOn : Shape → List ℕ → ℕ → Entry
 entryOn sh bs k = entryAt bs (messageOf sh bs k)
 
 -- ---- from blocks to a body that is accepted
@@ -94,7 +93,7 @@ shift f g k n first more (suc i) h = let e : k + 1 + i ≡ k + suc i = omega ari
 -- n blocks up to the end of the body, where the walk stops and not before, are counted and reported where they stand
 module _ (sh : Shape) (bs : List ℕ) (n : ℕ) (stop : stopAt sh (length bs) n (length bs) ≡ true)
     (on : (k at : ℕ) → k < n → at < length bs → stopAt sh (length bs) k at ≡ false) where
-  walk-blocks : (es : List Entry) (front : List ℕ) (k : ℕ) → k + length es ≡ n → bs ≡ front ++ blocksBytes (sh .stamped) es
+  pub walk-blocks : (es : List Entry) (front : List ℕ) (k : ℕ) → k + length es ≡ n → bs ≡ front ++ blocksBytes (sh .stamped) es
       → AllFit (sh .stamped) (sh .rule) es → Counting sh bs k (length front)
       → (walk sh bs ≡ Counted n)
       × (tab n (entryOn sh bs) ≡ tab k (entryOn sh bs) ++ es)
@@ -132,7 +131,7 @@ module _ (sh : Shape) (bs : List ℕ) (n : ℕ) (stop : stopAt sh (length bs) n 
 
 -- the walk stops behind the last of n blocks, and not before
 module _ (sh : Shape) (bs : List ℕ) (n : ℕ) where
-  stop-last : (sh .counted ≡ true → n ≡ sh .count) → 0 < n → stopAt sh (length bs) n (length bs) ≡ true
+  pub stop-last : (sh .counted ≡ true → n ≡ sh .count) → 0 < n → stopAt sh (length bs) n (length bs) ≡ true
   unfolding stopAt
   stop-last counted pos = go (sh .counted) refl
     where
@@ -140,7 +139,7 @@ module _ (sh : Shape) (bs : List ℕ) (n : ℕ) where
       go true c = le-leb (sh .count) n (omega (arith, counted c))
       go false c = rw (lt-ltb 0 n pos, le-leb (length bs) (length bs) (omega arith))
 
-  on-before : (sh .counted ≡ true → n ≡ sh .count) → (k at : ℕ) → k < n → at < length bs → stopAt sh (length bs) k at ≡ false
+  pub on-before : (sh .counted ≡ true → n ≡ sh .count) → (k at : ℕ) → k < n → at < length bs → stopAt sh (length bs) k at ≡ false
   unfolding stopAt
   on-before counted k at h l = go (sh .counted) refl
     where
@@ -204,7 +203,7 @@ pub record Come (sh : Shape) (bs : List ℕ) (k at : ℕ) : Type 0 where
   pub fit : AllFit (sh .stamped) (sh .rule) (tab k (entryOn sh bs))
   pub within : sh .counted ≡ true → k ≤ sh .count
 
-come-first : (sh : Shape) (bs : List ℕ) → Come sh bs 0 4
+pub come-first : (sh : Shape) (bs : List ℕ) → Come sh bs 0 4
 unfolding blocksBytes tab
 come-first sh bs = record { is = sym (append-nil (take 4 bs)); fit = tt; within = λ c. omega arith }
 
@@ -258,7 +257,7 @@ module _ (sh : Shape) (bs : List ℕ) (n : ℕ) (raw : Bytes bs) (least : sh .co
         fit = rw (← e) (come .fit);
       }
 
-  holds-from : (fuel k at : ℕ) → length bs < fuel + at → Reading sh bs n k at → Come sh bs k at → Holds sh bs (tab n (entryOn sh bs))
+  pub holds-from : (fuel k at : ℕ) → length bs < fuel + at → Reading sh bs n k at → Come sh bs k at → Holds sh bs (tab n (entryOn sh bs))
   holds-from zero k at short now come = absurd (omega arith)
   holds-from (suc fuel) k at short now come =
       go (stopAt sh (length bs) k at) refl (blockAt sh bs at) refl
@@ -336,78 +335,3 @@ open-not-carried kind rule bs o e =
     go true w e =
         never (ltb w (2 ^ 18) && counterOk (w / 2 ^ 16) (w % 2 ^ 16)) (record { stamped = true; counted = true; count = pick (eqb (w / 2 ^ 16) 0) (w % 2 ^ 16) 1; rule = rule }) e
     go false w e = never (eqb (w % 2 ^ 31) 0) (record { stamped = leb (2 ^ 31) w; counted = false; count = 0; rule = rule }) e
-
--- ---- the theorems
-
-entries-shaped : (kind : ℕ) (rule : TimeRule) (bs : List ℕ) (sh : Shape) (n : ℕ) → openBody kind rule bs ≡ Shaped sh
-    → entriesIn kind rule bs n ≡ tab n (entryOn sh bs)
-unfolding entriesIn
-entries-shaped kind rule bs sh n o = tab-ext n _ (entryOn sh bs) (λ k h. ap (entryAt bs) (message-shaped kind rule bs sh k o))
-
-check-shaped : (kind : ℕ) (rule : TimeRule) (bs : List ℕ) (sh : Shape) → openBody kind rule bs ≡ Shaped sh → checkBody kind rule bs ≡ walk sh bs
-unfolding checkBody
-check-shaped kind rule bs sh o = simp o
-
--- the walk over a body that is its channel word and these blocks
-blocks-walked : (kind : ℕ) (rule : TimeRule) (bs : List ℕ) (es : List Entry) (b : BodyOf kind rule bs es)
-    → (walk (b .shape) bs ≡ Counted (length es))
-    × (tab (length es) (entryOn (b .shape) bs) ≡ es)
-    × ((i : ℕ) → i < length es
-    → messageOf (b .shape) bs (0 + i) ≡ messageOn (b .shape .stamped) (4 + length (blocksBytes (b .shape .stamped) (take i es))) (getD es i noEntry))
-unfolding tab
-blocks-walked kind rule bs es b =
-    let sh = b .shape in
-    let long : 4 ≤ length bs = open-long kind rule bs sh (b .opened) in
-    let four : length (take 4 bs) ≡ 4 = length-take-le 4 bs long in
-    let fit : AllFit (sh .stamped) (sh .rule) es = rw (known kind rule bs sh (b .opened) .rule-is) (b .fit) in
-    let w =
-    walk-blocks sh bs (length es) (stop-last sh bs (length es) (b .counted) (b .some)) (on-before sh bs (length es) (b .counted))
-    es (take 4 bs) 0 (omega arith) (b .is) fit (rw four (counting-first sh bs long)) in
-    (w .0, w .1, λ i h. rw four at (w .2 i h))
-
--- a body that is its channel word and these blocks is accepted, and they are what is reported
-pub body-of-blocks : (kind : ℕ) (rule : TimeRule) (bs : List ℕ) (es : List Entry) → BodyOf kind rule bs es
-    → (checkBody kind rule bs ≡ Counted (length es)) × (entriesIn kind rule bs (length es) ≡ es)
-body-of-blocks kind rule bs es b =
-    let w = blocks-walked kind rule bs es b in
-    (check-shaped kind rule bs (b .shape) (b .opened) ∙ w .0, entries-shaped kind rule bs (b .shape) (length es) (b .opened) ∙ w .1)
-
--- and each where it stands, with its length: behind the channel word and the blocks before it
-pub body-messages : (kind : ℕ) (rule : TimeRule) (bs : List ℕ) (es : List Entry) (b : BodyOf kind rule bs es) (k : ℕ) → k < length es
-    → messageIn kind rule bs k ≡ messageOn (b .shape .stamped) (4 + length (blocksBytes (b .shape .stamped) (take k es))) (getD es k noEntry)
-body-messages kind rule bs es b k h = message-shaped kind rule bs (b .shape) k (b .opened) ∙ rw zero-add at (blocks-walked kind rule bs es b .2 k h)
-
--- an accepted body is exactly its channel word followed by the blocks of the messages reported: nothing invented, nothing left out
-pub body-is-blocks : (kind : ℕ) (rule : TimeRule) (bs : List ℕ) (n : ℕ) → Bytes bs → opens kind ≡ true → checkBody kind rule bs ≡ Counted n
-    → (length (entriesIn kind rule bs n) ≡ n) × BodyOf kind rule bs (entriesIn kind rule bs n)
-unfolding checkBody
-body-is-blocks kind rule bs n raw o e = go (openBody kind rule bs) refl e
-  where
-    go : (x : Opened) → openBody kind rule bs ≡ x → checkOpened x bs ≡ Counted n
-        → (length (entriesIn kind rule bs n) ≡ n) × BodyOf kind rule bs (entriesIn kind rule bs n)
-    go Carried q e = absurd (open-not-carried kind rule bs o q)
-    go Wrong q e = let z : _≡_ {A = ℕ} 0 1 = cc in absurd (omega arith)
-    go (Shaped sh) q e =
-        let k = known kind rule bs sh q in
-        let h =
-        holds-from sh bs n raw (k .least) (length bs) 0 4 (omega arith) (reading-first sh bs n (open-long kind rule bs sh q) e) (come-first sh bs) in
-        let s = entries-shaped kind rule bs sh n q in (
-          ap length s ∙ length-tab n (entryOn sh bs),
-          rw s
-              (record {
-                shape = sh;
-                opened = q;
-                counted = h .counted;
-                some = h .some;
-                is = h .is;
-                fit = subst (λ (r : TimeRule). AllFit (sh .stamped) r (tab n (entryOn sh bs))) (k .rule-is) (h .fit);
-              }),
-        )
-
--- both ways
-pub body-exactly : (kind : ℕ) (rule : TimeRule) (bs : List ℕ) (es : List Entry) → Bytes bs → opens kind ≡ true
-    → ((checkBody kind rule bs ≡ Counted (length es)) × (entriesIn kind rule bs (length es) ≡ es)) ↔ BodyOf kind rule bs es
-body-exactly kind rule bs es raw o = (
-  λ h. subst (λ (l : List Entry). BodyOf kind rule bs l) (h .1) (body-is-blocks kind rule bs (length es) raw o (h .0) .1),
-  body-of-blocks kind rule bs es,
-)

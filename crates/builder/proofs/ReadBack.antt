@@ -9,7 +9,7 @@ use Rattle.body.specs.Answers.{checkBody}
 use Rattle.body.specs.Blocks.{Entry, entriesIn}
 use Rattle.body.specs.declared.TimeRule.{TimeRule}
 use Rattle.body.specs.declared.Checked.the-variants.{Counted}
-use Rattle.body.proofs.Whole.{body-of-blocks}
+use Rattle.body.proofs.Exactly.{body-of-blocks}
 use Rattle.builder.specs.Build.{stamped, closeStep, told}
 use Rattle.builder.specs.Run.{Built, closedBody}
 use Rattle.builder.specs.declared.Draft.{Draft}
