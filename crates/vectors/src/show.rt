@@ -1,0 +1,169 @@
+// The lines that tell the outcome of a case.
+ghost use Prim.Native.Nat.{_≤_};
+use body::Checked;
+use body::Listed;
+use body::Message;
+use body::Picked;
+use body::Refusal;
+use body::TimeRule;
+use body::check_body;
+use body::list_messages;
+use body::message_at;
+use builder::Draft;
+use builder::Step;
+use words::find;
+
+// Writes a text with the next number in the place of each `#`.
+fn show(text: &[u8], numbers: &[u64]) {
+    let mut at: usize = 0;
+    let mut k: usize = 0;
+    while at < text.len() {
+        let end = find(text, at, b'#');
+        io::write_all(1, &text[at..end]);
+        if end < text.len() {
+            if k < numbers.len() {
+                io::print_decimal(1, numbers[k]);
+                k += 1;
+            }
+        }
+        at = end + 1;
+    }
+}
+
+// A sum; true, as the line is a case.
+pub fn show_sum(sum: u64) -> bool {
+    show(b"  sum=#\n", &[sum]);
+    true
+}
+
+// The number, the place and the room of a refusal.
+fn show_refusal(f: Refusal) {
+    show(
+        b"  # at # room #\n",
+        &[f.number as u64, f.place as u64, f.room as u64],
+    );
+}
+
+// A message under its number.
+fn show_found(number: u64, m: Message) {
+    show(
+        b"  #: time=# id=# start=# length=#\n",
+        &[number, m.time, m.id as u64, m.start as u64, m.length as u64],
+    );
+}
+
+// What the library says of the message of this number.
+fn show_message(body: &[u8], kind: u8, rule: TimeRule, number: usize) {
+    match message_at(body, kind, rule, number) {
+        Picked::One(m) => show_found(number as u64, m),
+        Picked::Unread(f) => show_refusal(f),
+        Picked::Missing => show(b"  no message #\n", &[number as u64]),
+    }
+}
+
+// How many messages there are, the first 8 of them, and the one past the last.
+fn show_messages(body: &[u8], kind: u8, rule: TimeRule, n: usize) {
+    show(b"  # messages\n", &[n as u64]);
+    for k in 0..8 {
+        if k < n {
+            show_message(body, kind, rule, k);
+        }
+    }
+    show_message(body, kind, rule, n);
+}
+
+// One entry of both lists.
+fn show_entry(start: u32, length: u32) {
+    show(b" #:#", &[start as u64, length as u64]);
+}
+
+// All entries of both lists.
+fn show_entries(starts: &[u32; 5], lengths: &[u32; 5]) {
+    for i in 0..5 {
+        show_entry(starts[i], lengths[i]);
+    }
+    io::write_all(1, b"\n");
+}
+
+// What the library says of the lists.
+fn show_listed(listed: Listed) {
+    if let Listed::NoRoom(n) = listed {
+        show(b"  no room for #:", &[n as u64]);
+    } else {
+        io::write_all(1, b"  lists:");
+    }
+}
+
+// The lists of a body's messages, of the first r and the first q of five entries, and all five of both.
+// A body that ends 2^32 bytes or more behind its base has none.
+pub fn show_lists(body: &[u8], base: usize, kind: u8, rule: TimeRule, r: usize, q: usize)
+    requires { ⌜ (base ≤ 24) × (r ≤ 5) × (q ≤ 5) ⌝ }
+{
+    let mut starts = [7u32; 5];
+    let mut lengths = [7u32; 5];
+    if 0xFFFF_FFE8 < body.len() {
+        return;
+    }
+    let listed = list_messages(
+        body,
+        base,
+        kind,
+        rule,
+        &mut starts[0..r],
+        &mut lengths[0..q],
+    );
+    show_listed(listed);
+    show_entries(&starts, &lengths);
+}
+
+// What the library says of a body, with lists of 3 entries.
+pub fn show_body(body: &[u8], base: usize, kind: u8, rule: TimeRule)
+    requires { ⌜ base ≤ 24 ⌝ }
+{
+    match check_body(body, kind, rule) {
+        Checked::Counted(n) => show_messages(body, kind, rule, n),
+        Checked::Faulty(f) => show_refusal(f),
+    }
+    show_lists(body, base, kind, rule, 3, 3);
+}
+
+// The state of a body that is being built.
+pub fn show_draft(d: Draft) -> Draft {
+    show(
+        b"  state used=# blocks=# type=# rule=#\n",
+        &[d.used as u64, d.blocks, d.kind as u64, d.rule as u64],
+    );
+    d
+}
+
+// The first 48 bytes of a buffer.
+fn show_bytes(buf: &[u8]) {
+    io::write_all(1, b"  bytes=");
+    for i in 0..48 {
+        if i < buf.len() {
+            io::print_hex(1, buf[i] as u64, 2);
+        }
+    }
+    io::write_all(1, b"\n");
+}
+
+// What a step says, and the state it hands back.
+fn show_state(step: Step) -> Draft {
+    match step {
+        Step::Done(draft) => {
+            io::write_all(1, b"  done\n");
+            show_draft(draft)
+        }
+        Step::Denied(f, draft) => {
+            show_refusal(f);
+            show_draft(draft)
+        }
+    }
+}
+
+// What a step says, the state it hands back and what the buffer holds.
+pub fn show_step(step: Step, buf: &[u8]) -> Draft {
+    let draft = show_state(step);
+    show_bytes(buf);
+    draft
+}
