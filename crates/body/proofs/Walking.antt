@@ -7,7 +7,7 @@ use native.Mathlib.Omega.{arith}
 use native.Mathlib.Numerals.{add-one}
 use lib.ListN.{length}
 use lib.Dec.{ltb, leb, eqb}
-use borrow.Author.Tests.{ltb-false, eqb-false, not-false, lt-leb, le-ltb, eq-eqb, ne-eqb}
+use borrow.Author.Tests.{ltb-false, eqb-false, not-false, lt-leb, lt-ltb, le-ltb, eq-eqb, ne-eqb}
 use Rattle.units.specs.Units.{part, field, zeros}
 use Rattle.units.specs.Choice.{pick}
 use Rattle.units.proofs.Choices.{passed}
@@ -87,6 +87,29 @@ stands-found sh bs at m next s =
       s .pad,
       s .next-is,
     ))
+
+-- a head by its tests in their order, as the code makes them; next is the place behind the block
+module _ (rule : TimeRule) (bs : List ℕ) (at : ℕ) (m : Message) (next : ℕ) (is : next ≡ blockEnd m) where
+  pub judge-short : length bs < next → Broken (fault at) ≡ judge rule bs at m
+  unfolding judge
+  judge-short h = simp (lt-ltb (length bs) (blockEnd m) (omega (arith, is)))
+
+  pub judge-time : next ≤ length bs → timeOk rule (m .time) ≡ false → Broken (fault at) ≡ judge rule bs at m
+  unfolding judge
+  judge-time h t = simp (le-ltb (length bs) (blockEnd m) (omega (arith, is)), t)
+
+  pub judge-empty : next ≤ length bs → timeOk rule (m .time) ≡ true → m .length ≡ 0 → Broken (fault at) ≡ judge rule bs at m
+  unfolding judge
+  judge-empty h t e = simp (le-ltb (length bs) (blockEnd m) (omega (arith, is)), t, eq-eqb (m .length) 0 e)
+
+  pub judge-pad : (z : Bool) → next ≤ length bs → timeOk rule (m .time) ≡ true → (m .length ≡ 0 → ⊥)
+      → zeros (part bs (m .start + m .length) (next - (m .start + m .length))) ≡ z
+      → pick (not z) (Broken (fault at)) (Found m next) ≡ judge rule bs at m
+  unfolding judge
+  judge-pad z h t some pad =
+      let l : next - (m .start + m .length) ≡ m .length % 2 = omega (arith, is) in
+      let pad-is : zeros (part bs (m .start + m .length) (m .length % 2)) ≡ z = rw l at pad in
+      rw is (simp (le-ltb (length bs) (blockEnd m) (omega (arith, is)), t, ne-eqb (m .length) 0 some, pad-is))
 
 -- ---- the walk
 

@@ -23,7 +23,7 @@ use Rattle.body.specs.declared.Checked.the-variants.{Counted, Faulty}
 abbrev pub refused : ℕ → ℕ → ℕ → Refusal
 refused number place room = record { number = number; place = place; room = room }
 
--- 15: an opened body breaks its layout, at the channel word or the first byte of the block at fault
+-- 15: an opened body breaks its layout, at the channel word or the first byte of the block at fault, or of the bytes left over, or where a missing block should begin
 abbrev pub fault : ℕ → Refusal
 fault place = refused 15 place 0
 
@@ -35,7 +35,7 @@ opens kind = eqb kind 0x30 || eqb kind 0x50
 
 -- 0x30: type 00, the counter is the number of blocks, at least 1; type 01, counter 1; types 10 and 11, counter at least 2
 abbrev pub counterOk : ℕ → ℕ → Bool
-counterOk t counter = (eqb t 0 && ltb 0 counter) || (eqb t 1 && eqb counter 1) || (ltb 1 t && ltb 1 counter)
+counterOk form counter = (eqb form 0 && ltb 0 counter) || (eqb form 1 && eqb counter 1) || (ltb 1 form && ltb 1 counter)
 
 -- 0x30: bits 31-18 are zero, bits 17-16 the type, bits 15-0 the counter; one block but in type 00; always a time stamp
 unfoldable pub messageShape : TimeRule → ℕ → Opened
@@ -64,9 +64,13 @@ openBody kind rule bs =
 unfoldable pub stampLength : Bool → ℕ
 stampLength stamped = pick stamped 8 0
 
--- the size of a block: its time stamp, its ID word of 4 bytes, its n bytes, and one pad byte if n is odd
+-- behind n bytes that begin at `start`, and one pad byte if n is odd
+abbrev pub paddedEnd : ℕ → ℕ → ℕ
+paddedEnd start n = start + n + n % 2
+
+-- the size of a block: its time stamp, its ID word of 4 bytes, its n bytes and their pad
 abbrev pub blockSize : Bool → ℕ → ℕ
-blockSize stamped n = stampLength stamped + 4 + n + n % 2
+blockSize stamped n = paddedEnd (stampLength stamped + 4) n
 
 -- what the head of a block at `at` says: time (0 if none is stored), ID word, and its n bytes; n is bits 15-0 of the ID word
 unfoldable pub headAt : Bool → List ℕ → ℕ → Message
@@ -78,9 +82,9 @@ headAt stamped bs at =
       length = field bs (at + stampLength stamped) 4 % 2 ^ 16;
     }
 
--- behind its n bytes, and one pad byte if n is odd
+-- behind a block, by what its head says
 abbrev pub blockEnd : Message → ℕ
-blockEnd m = m .start + m .length + m .length % 2
+blockEnd m = paddedEnd (m .start) (m .length)
 
 -- a block at `at` whose head is whole: cut short, time (0 where none is stored, which is in form under every rule), length zero, pad
 unfoldable pub judge : TimeRule → List ℕ → ℕ → Message → Block

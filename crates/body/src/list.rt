@@ -9,6 +9,7 @@ use crate::Listed;
 use crate::Message;
 use crate::Picked;
 use crate::Shape;
+use crate::walk::block_end;
 use crate::walk::count_blocks;
 use crate::walk::head_at;
 
@@ -21,7 +22,7 @@ fn seek(body: &[u8], shape: Shape, n: usize, k: usize) -> Message
     let mut at: usize = 4;
     while i < k {
         let m = head_at(body, at, shape.stamped);
-        at = m.start + m.length + m.length % 2;
+        at = block_end(m);
         i += 1;
     }
     head_at(body, at, shape.stamped)
@@ -64,7 +65,7 @@ fn fill_lists(
         let m = head_at(body, at, shape.stamped);
         starts[k] = (base + m.start) as u32;
         lengths[k] = m.length as u32;
-        at = m.start + m.length + m.length % 2;
+        at = block_end(m);
         k += 1;
     }
 }

@@ -13,23 +13,23 @@ pub fn opens_kind(kind: u8) -> bool
     (kind == 0x30) | (kind == 0x50)
 }
 
-// Whether the counter of a 0x30 body fits its type.
-fn counter_ok(t: u32, counter: u32) -> bool
-    ensures { λ r. ⌜ r ≡ counterOk t counter ⌝ }
+// Whether the counter of a 0x30 body fits its form, bits 17-16 of the channel word.
+fn counter_ok(form: u32, counter: u32) -> bool
+    ensures { λ r. ⌜ r ≡ counterOk form counter ⌝ }
 {
-    ((t == 0) & (0 < counter)) | ((t == 1) & (counter == 1)) | ((1 < t) & (1 < counter))
+    ((form == 0) & (0 < counter)) | ((form == 1) & (counter == 1)) | ((1 < form) & (1 < counter))
 }
 
 // 0x30: the type and the counter.
 fn message_shape(rule: TimeRule, word: u32) -> Opened
     ensures { λ r. ⌜ r ≡ messageShape rule word ⌝ }
 {
-    let kind = word / 0x1_0000;
+    let form = word / 0x1_0000;
     let counter = word % 0x1_0000;
-    if !((word < 0x4_0000) & counter_ok(kind, counter)) {
+    if !((word < 0x4_0000) & counter_ok(form, counter)) {
         return Opened::Wrong;
     }
-    let count = if kind == 0 { counter as usize } else { 1 };
+    let count = if form == 0 { counter as usize } else { 1 };
     Opened::Shaped(Shape {
         stamped: true,
         counted: true,

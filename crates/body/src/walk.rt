@@ -2,7 +2,7 @@
 ghost use mathlib.Core.Path.{_≡_};
 ghost use Prim.Native.Nat.{_+_, _^_, _≤_, _<_};
 ghost use lib.ListN.{length};
-ghost use Rattle.body.specs.Walk.{stampLength, headAt, judge, blockAt, stopAt, walk};
+ghost use Rattle.body.specs.Walk.{stampLength, headAt, blockEnd, judge, blockAt, stopAt, walk};
 use crate::Block;
 use crate::Checked;
 use crate::Message;
@@ -45,13 +45,21 @@ pub fn head_at(body: &[u8], at: usize, stamped: bool) -> Message
     }
 }
 
+// The place behind a block, by what its head says.
+pub fn block_end(m: Message) -> usize
+    requires { ⌜ blockEnd m < 2 ^ 64 ⌝ }
+    ensures { λ r. ⌜ r ≡ blockEnd m ⌝ }
+{
+    m.start + m.length + m.length % 2
+}
+
 // The block at `at`, by what its head says.
 fn judge_block(body: &[u8], rule: TimeRule, at: usize, m: Message) -> Block
     requires { ⌜ (at ≤ m .start) × (m .start ≤ length (now body)) × (m .length < 2 ^ 16) ⌝ }
     ensures { λ r. ⌜ r ≡ judge rule (now (body .entry)) at m ⌝ }
 {
     let pad = m.start + m.length;
-    let next = pad + m.length % 2;
+    let next = block_end(m);
     if body.len() < next {
         return Block::Broken(fault(at));
     }

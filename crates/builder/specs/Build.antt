@@ -110,7 +110,7 @@ abbrev pub told : Step → Told
 told (Done d) = record { number = 0; place = 0; room = 0; draft = d }
 told (Denied r d) = record { number = r .number; place = r .place; room = r .room; draft = d }
 
--- the buffer, of which a step is given the length: vs written at `at`, or untouched
+-- the buffer: vs written at `at` where the step is done, else untouched
 unfoldable pub bufAfter : Step → List ℕ → ℕ → List ℕ → List ℕ
 bufAfter (Done d) old at vs = splice old at vs
 bufAfter (Denied r d) old at vs = old

@@ -4,7 +4,7 @@ use mathlib.Core.List.{List, [], _∷_, _++_}
 use mathlib.Core.Bool.{Bool, true, false, _&&_}
 use Prim.Native.Nat.{ℕ, zero, suc, _+_, _*_, _/_, _%_, _^_, _<_}
 use native.Mathlib.Omega.{arith}
-use native.Mathlib.Nat.{zero-add, div-one, div-div-eq-div-mul, mod-one, mod-mod, pow-suc, pow-succ', mul-assoc, one-le-pow, mod-eq-of-lt, suc-add}
+use native.Mathlib.Nat.{zero-add, div-one, div-div-eq-div-mul, mod-one, mod-mod, pow-suc, pow-succ', one-le-pow, mod-eq-of-lt, suc-add}
 use lib.Arith.{mod-mul}
 use lib.Dec.{lit<, eqb}
 use lib.ListN.{length, take, drop, getD, replicate, take-append-drop}
@@ -16,11 +16,6 @@ pub pow-pos : (n : ℕ) → 0 < 256 ^ n
 pow-pos n = one-le-pow n 256 (lit< tt)
 
 -- ---- lists of bytes
-
-pub bytes-append : (xs ys : List ℕ) → Bytes xs → Bytes ys → Bytes (xs ++ ys)
-unfolding Bytes
-bytes-append [] ys hx hy = hy
-bytes-append (x ∷ xs) ys hx hy = (hx .0, bytes-append xs ys (hx .1) hy)
 
 pub bytes-left : (xs ys : List ℕ) → Bytes (xs ++ ys) → Bytes xs
 unfolding Bytes
@@ -84,14 +79,6 @@ num-lt [] h = lit< tt
 num-lt (b ∷ bs) h = rw pow-succ' (omega (arith, h .0, num-lt bs (h .1)))
 
 -- ---- parts of a number
-
-pub num-append : (xs ys : List ℕ) → num (xs ++ ys) ≡ num xs + 256 ^ length xs * num ys
-unfolding num
-num-append [] ys = omega arith
-num-append (x ∷ xs) ys =
-    let ih : num (xs ++ ys) ≡ num xs + 256 ^ length xs * num ys = num-append xs ys in
-    let e : 256 ^ suc (length xs) * num ys ≡ 256 * (256 ^ length xs * num ys) = rw pow-succ' (mul-assoc 256 (256 ^ length xs) (num ys)) in
-    omega arith
 
 -- a number of n + m bytes: its low n bytes, then the others
 pub bytesOf-add : (n m v : ℕ) → bytesOf (n + m) v ≡ bytesOf n v ++ bytesOf m (v / 256 ^ n)

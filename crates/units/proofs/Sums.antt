@@ -6,14 +6,13 @@ use mathlib.Core.Logic.{_≢_}
 use Prim.Native.Nat.{ℕ, zero, suc, _+_, _-_, _*_, _/_, _%_, _^_, _≤_, _<_}
 use native.Mathlib.Omega.{arith}
 use native.Mathlib.Decide.{decLt}
-use native.Mathlib.Nat.{zero-add, add-zero, add-left-comm, mul-zero, mul-suc, mod-one, zero-mod, mod-lt, mod-eq-of-lt, mod-add-mod, add-mul-mod-self-left, div-add-mod, suc-add, le-dest, mul-le-mul-left}
+use native.Mathlib.Nat.{zero-add, add-zero, add-left-comm, mul-zero, mul-suc, zero-mod, mod-lt, mod-eq-of-lt, mod-add-mod, add-mul-mod-self-left, div-add-mod, suc-add, le-dest, mul-le-mul-left}
 use native.Mathlib.Numerals.{add-one}
-use lib.ListN.{length, take, drop, length-append, length-drop, take-append-drop}
-use lib.Seq.{length-take-le, drop-drop, take-append-le, drop-append-le, drop-append-add, take-at, drop-at}
+use lib.ListN.{length, drop, length-append, length-drop}
+use lib.Seq.{drop-drop, take-append-le, drop-append-le, drop-append-add, take-at, drop-at}
 use borrow.Author.Tests.{eqb-true, eq-eqb, ne-eqb}
-use Rattle.units.specs.Units.{Bytes, num, field, splice, sumUnits, checksum, summed, Changed}
+use Rattle.units.specs.Units.{Bytes, num, field, sumUnits, checksum, summed, Changed}
 use Rattle.units.proofs.Numbers.{pow-pos, bytes-left, bytes-right, num-inj, num-lt}
-use Rattle.units.proofs.Writes.{length-splice, part-splice-before}
 
 -- ---- modulo
 
@@ -74,20 +73,6 @@ sum-over w k xs ys h =
     let e : sumUnits w (k + 0) (xs ++ ys) ≡ sumUnits w k xs + 0 = sum-append w k 0 xs ys h in
     simp add-zero at e
 
-pub sum-take : (w k : ℕ) (bs : List ℕ) → w * k ≤ length bs → sumUnits w k (take (w * k) bs) ≡ sumUnits w k bs
-sum-take w k bs h =
-    sym (sum-over w k (take (w * k) bs) (drop (w * k) bs) (length-take-le (w * k) bs h)) ∙ ap (sumUnits w k) (take-append-drop (w * k) bs)
-
-pub sum-agree : (w k : ℕ) (xs ys : List ℕ) → w * k ≤ length xs → w * k ≤ length ys → take (w * k) xs ≡ take (w * k) ys → sumUnits w k xs ≡ sumUnits w k ys
-sum-agree w k xs ys hx hy e = sym (sum-take w k xs hx) ∙ ap (sumUnits w k) e ∙ sum-take w k ys hy
-
--- so what is written behind them does not count
-pub sum-splice-behind : (w k : ℕ) (bs : List ℕ) (at : ℕ) (vs : List ℕ) → at + length vs ≤ length bs → w * k ≤ at
-    → sumUnits w k (splice bs at vs) ≡ sumUnits w k bs
-sum-splice-behind w k bs at vs h l =
-    sum-agree w k (splice bs at vs) bs (omega (arith, length-splice bs at vs h)) (omega arith)
-    (part-splice-before bs at vs h 0 (w * k) (omega arith))
-
 -- one unit and what stands around it
 pub sum-around : (w j k : ℕ) (pre u post : List ℕ) → length pre ≡ w * j → length u ≡ w
     → sumUnits w (j + suc k) (pre ++ (u ++ post)) ≡ num u + (sumUnits w j pre + sumUnits w k post)
@@ -109,11 +94,6 @@ pub summed-wrong : (w k : ℕ) (xs : List ℕ) → (checksum w k xs ≡ field xs
 unfolding summed
 summed-wrong w k xs d = ne-eqb (checksum w k xs) (field xs (w * k) w) d
 
--- a sum of no width is there in every list
-pub summed-none : (k : ℕ) (xs : List ℕ) → summed 0 k xs ≡ true
-unfolding num
-summed-none k xs = summed-made 0 k xs (mod-one (sumUnits 0 k xs))
-
 -- ---- what a sum sees, at every width
 
 num-below : (w : ℕ) (xs : List ℕ) → length xs ≡ w → Bytes xs → num xs < 256 ^ w
@@ -121,7 +101,7 @@ num-below w xs h b = rw (← h) (num-lt xs b)
 
 module _ (w : ℕ) (front old new back : List ℕ) (ho : length old ≡ w) (hn : length new ≡ w) (bo : Bytes old) (bn : Bytes new) where
   -- units that stand for each other in a sum are the same
-  one-unit : (j k : ℕ) → length front ≡ w * j
+  pub one-unit : (j k : ℕ) → length front ≡ w * j
       → checksum w (j + suc k) (front ++ (old ++ back)) ≡ checksum w (j + suc k) (front ++ (new ++ back)) → old ≡ new
   one-unit j k hf e =
       let rest = sumUnits w j front + sumUnits w k back in

@@ -244,6 +244,7 @@ fn run_case(line: &[u8], room: &mut [u8], bench: Bench) -> Bench {
     }
     let size = bench.size;
     if room.len() < size {
+        unknown(bench.draft);
         return bench;
     }
     let draft = run_step(which, line, &mut room[0..size], bench.draft);

@@ -95,7 +95,7 @@ fn show_listed(listed: Listed) {
 }
 
 // The lists of a body's messages, of the first r and the first q of five entries, and all five of both.
-// A body that ends 2^32 bytes or more behind its base has none.
+// Starts are 32-bit numbers; no case comes near.
 pub fn show_lists(body: &[u8], base: usize, kind: u8, rule: TimeRule, r: usize, q: usize)
     requires { ⌜ (base ≤ 24) × (r ≤ 5) × (q ≤ 5) ⌝ }
 {

@@ -32,7 +32,7 @@ pub fn find(s: &[u8], from: usize, byte: u8) -> usize
 }
 
 // The number of words in a line.
-pub fn count_words(line: &[u8]) -> usize
+fn count_words(line: &[u8]) -> usize
     ensures { λ r. ⌜ 1 ≤ r ⌝ }
 {
     let mut n: usize = 1;
@@ -69,7 +69,7 @@ fn word_start(line: &[u8], k: usize) -> usize
 }
 
 // The k-th word of a line, from 0; empty where there is none.
-pub fn word(line: &[u8], k: usize) -> &[u8] {
+fn word(line: &[u8], k: usize) -> &[u8] {
     let at = word_start(line, k);
     let end = find(line, at, b' ');
     &line[at..end]
@@ -84,7 +84,7 @@ pub fn is_case(line: &[u8]) -> bool {
 }
 
 // Whether a word is this name.
-pub fn same(word: &[u8], name: &[u8]) -> bool {
+fn same(word: &[u8], name: &[u8]) -> bool {
     if word.len() != name.len() {
         return false;
     }
@@ -143,7 +143,7 @@ fn with_digit(n: Number, byte: u8) -> Number {
 }
 
 // The decimal number that a word stands for.
-pub fn decimal(word: &[u8]) -> Number {
+fn decimal(word: &[u8]) -> Number {
     let mut n = Number {
         value: 0,
         good: 0 < word.len(),
@@ -157,7 +157,7 @@ pub fn decimal(word: &[u8]) -> Number {
 }
 
 // The decimal number that a word stands for, from `least` to `most`.
-pub fn decimal_within(word: &[u8], least: u64, most: u64) -> Number
+fn decimal_within(word: &[u8], least: u64, most: u64) -> Number
     ensures { λ r. ⌜ r .value ≤ most ⌝ }
 {
     let n = decimal(word);
@@ -189,7 +189,7 @@ fn hex_pair(high: u8, low: u8) -> Number
 }
 
 // The byte that a word of two hexadecimal digits stands for.
-pub fn hex_byte(word: &[u8]) -> Number
+fn hex_byte(word: &[u8]) -> Number
     ensures { λ r. ⌜ r .value < 256 ⌝ }
 {
     if word.len() != 2 {
@@ -199,7 +199,7 @@ pub fn hex_byte(word: &[u8]) -> Number
 }
 
 // The lowest byte of a number.
-pub fn low_byte(v: u64) -> u8 {
+fn low_byte(v: u64) -> u8 {
     (v % 256) as u8
 }
 
@@ -209,7 +209,7 @@ pub fn low_half(v: u64) -> u16 {
 }
 
 // Puts the bytes that a word stands for at the start of out; the number is how many there are.
-pub fn hex_bytes(word: &[u8], out: &mut [u8]) -> Number
+fn hex_bytes(word: &[u8], out: &mut [u8]) -> Number
     ensures { λ r. ⌜ r .value ≤ length (now (out .entry)) ⌝ }
 {
     if same(word, b"-") {

@@ -1,9 +1,10 @@
+use Prim.Native.Nat.{ℕ}
 use Rattle.builder.proofs.Drafts.{draft-facts, block-facts}
-use Rattle.builder.specs.Build.{added, addStep}
+use Rattle.builder.specs.Build.{denied, added, addStep}
 use borrow.Author.Tests.{lt-ltb, le-ltb}
 use Rattle.units.proofs.Choices.{chosen, skipped}
 use native.Mathlib.Omega.{arith}
-use mathlib.Core.Path.{refl, sym, _∙_}
+use mathlib.Core.Path.{refl, sym, ap, _∙_}
 use borrow.Author.Needs.{needs}
 use Rattle.builder.proofs.judge_add.Statement.{statement}
 use Rattle.builder.proofs.judge_add.Tie as tie
@@ -50,12 +51,14 @@ returns-5 : tie.Need-returns-5
 unfolding addStep
 returns-5 c =
     let e = c .before .before .used-after .ensures in
+    let draft = c .before .before .before .before .before .before .before .before .before .before .before .args .draft in
     c .deny5 .ensures
-    ∙ rw e (skipped _ _ _ (c .before .before .before .before .before .before .before .before .before .before .bad-draft .ensures) (c .before .before .before .before .before .before .before .before .before .if1 .left)
+    ∙ ap (λ (used : ℕ). denied 16 used draft) e
+    ∙ skipped _ _ _ (c .before .before .before .before .before .before .before .before .before .before .bad-draft .ensures) (c .before .before .before .before .before .before .before .before .before .if1 .left)
     (skipped _ _ _ (c .before .before .before .before .before .before .before .before .bad-block .ensures) (c .before .before .before .before .before .before .before .if2 .left)
     (skipped _ _ _ (c .before .before .before .before .before .before .bad-time .ensures) (c .before .before .before .before .before .if3 .left)
     (skipped _ _ _ (c .before .before .before .before .stray-time .ensures) (c .before .before .before .if4 .left)
-    (chosen _ _ refl (rw e at (lt-ltb _ _ (c .before .if5 .taken))))))))
+    (chosen _ _ refl (rw e at (lt-ltb _ _ (c .before .if5 .taken)))))))
 
 returns-6 : tie.Need-returns-6
 unfolding addStep added
