@@ -1,3 +1,4 @@
+use native.Mathlib.Omega.{arith}
 use Rattle.body.specs.Answers.{pickCounted}
 use borrow.Author.Tests.{lt-ltb, le-ltb}
 use mathlib.Core.Path.{sym, _∙_}
@@ -8,7 +9,7 @@ use Rattle.body.proofs.list.pick_message.Tie as tie
 seek-requires : tie.Need-seek-requires
 seek-requires c κs =
     let after-n = c .before .before in
-    (search needs, sym (after-n .before .before .count-blocks .ensures) ∙ after-n .n .given .1, c .if1 .taken)
+    (search needs, sym (after-n .before .before .count-blocks .ensures) ∙ after-n .n .given .1, omega arith)
 
 returns : tie.Need-returns
 unfolding pickCounted
