@@ -17,6 +17,7 @@ timeOk Ieee1588 t = ltb (t % 2 ^ 32) 1000000000
 -- extended counter: any
 timeOk Extended t = true
 
--- a rule by its number: 1 the counter (flag bit 6 clear), else 2 and the format bits; what 0, none, and 5 and above, refused, would stand for has no say
+-- a rule by its number: 1 the counter (flag bit 6 clear), else 2 and the format bits.
+-- 0, no rule, tests no time, and 5 and above are refused: what they give here has no say
 unfoldable pub ruleOf : ℕ → TimeRule
 ruleOf n = pick (eqb n 1) Counter (pick (eqb n 2) Chapter4 (pick (eqb n 3) Ieee1588 Extended))

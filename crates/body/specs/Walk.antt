@@ -23,7 +23,8 @@ use Rattle.body.specs.declared.Checked.the-variants.{Counted, Faulty}
 abbrev pub refused : ℕ → ℕ → ℕ → Refusal
 refused number place room = record { number = number; place = place; room = room }
 
--- 15: an opened body breaks its layout, at the channel word or the first byte of the block at fault, or of the bytes left over, or where a missing block should begin
+-- 15: an opened body breaks its layout, at the channel word or the first byte of the block at fault
+-- (or of the bytes left over, or where a missing block should begin)
 abbrev pub fault : ℕ → Refusal
 fault place = refused 15 place 0
 
@@ -33,7 +34,8 @@ fault place = refused 15 place 0
 abbrev pub opens : ℕ → Bool
 opens kind = eqb kind 0x30 || eqb kind 0x50
 
--- 0x30: type 00, the counter is the number of blocks, at least 1; type 01, counter 1; types 10 and 11, counter at least 2
+-- 0x30, by the type in bits 17-16, `form` here: type 00, the counter is the number of blocks, at least 1; type 01, counter 1;
+-- types 10 and 11, counter at least 2
 abbrev pub counterOk : ℕ → ℕ → Bool
 counterOk form counter = (eqb form 0 && ltb 0 counter) || (eqb form 1 && eqb counter 1) || (ltb 1 form && ltb 1 counter)
 

@@ -228,7 +228,8 @@ fn run_step(which: usize, line: &[u8], buf: &mut [u8], draft: Draft) -> Draft {
     }
 }
 
-// Which command a line is: its place in the list of each command's number of words and its name.
+// Which command a line is: its place in the list of each command's number of words and its name
+// (0 buffer, 1 state, 2 open, 3 close, 4 many, 5 body, 6 add, 7 read, 8 lists, 9 sum, 10 header, 11 secondary).
 fn which_command(line: &[u8]) -> usize {
     command(
         line,
