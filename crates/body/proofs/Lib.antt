@@ -3,3 +3,4 @@ pub mod Reading
 pub mod Blocks
 pub mod Whole
 pub mod Exactly
+pub mod Bounds

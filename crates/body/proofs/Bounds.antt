@@ -1,0 +1,105 @@
+-- Places lie in the body or at its end: a fault's, and a message's bytes. Assumes nothing.
+use mathlib.Core.Path.{_≡_, refl, sym, ap, _∙_}
+use mathlib.Core.List.{List}
+use mathlib.Core.Bool.{Bool, true, false, not}
+use Prim.Native.Nat.{ℕ, zero, suc, _+_, _-_, _%_, _≤_, _<_}
+use native.Mathlib.Omega.{arith}
+use native.Mathlib.Nat.{zero-add, add-zero}
+use lib.ListN.{length}
+use lib.Dec.{ltb, leb, eqb}
+use Rattle.units.specs.Units.{part, zeros}
+use Rattle.units.specs.Choice.{pick}
+use Rattle.body.specs.Times.{timeOk}
+use Rattle.body.specs.Walk.{fault, blockEnd, headAt, judge, blockAt, stopAt, ending, stampLength, openBody, walk, walkFrom}
+use Rattle.body.specs.Answers.{checkBody, checkOpened, messageOf, messageIn}
+use Rattle.body.specs.declared.TimeRule.{TimeRule}
+use Rattle.body.specs.declared.Refusal.{Refusal}
+use Rattle.body.specs.declared.Shape.{Shape}
+use Rattle.body.specs.declared.Message.{Message}
+use Rattle.body.specs.declared.Opened.{Opened}
+use Rattle.body.specs.declared.Opened.the-variants.{Carried, Shaped, Wrong}
+use Rattle.body.specs.declared.Block.{Block}
+use Rattle.body.specs.declared.Block.the-variants.{Found, Broken}
+use Rattle.body.specs.declared.Checked.{Checked}
+use Rattle.body.specs.declared.Checked.the-variants.{Counted, Faulty}
+use Rattle.body.proofs.Walking.{Walking, walking-first, walking-next, walk-stop, walk-broken, walk-found, open-long}
+use Rattle.body.proofs.Reading.{Reading, reading-first, reading-ahead, Ahead, message-shaped}
+
+-- ---- faults
+
+-- every fault of a block is placed at its first byte
+at-start : (t : Bool) (at : ℕ) (rest : Block) → ((r : Refusal) → rest ≡ Broken r → r ≡ fault at)
+    → (r : Refusal) → pick t (Broken (fault at)) rest ≡ Broken r → r ≡ fault at
+at-start true at rest behind r e = cc
+at-start false at rest behind r e = behind r e
+
+found-broken : (m : Message) (next : ℕ) (at : ℕ) (r : Refusal) → Found m next ≡ Broken r → r ≡ fault at
+found-broken m next at r e = let z : _≡_ {A = ℕ} 0 1 = cc in absurd (omega arith)
+
+broken-at : (sh : Shape) (bs : List ℕ) (at : ℕ) (r : Refusal) → blockAt sh bs at ≡ Broken r → r ≡ fault at
+unfolding blockAt judge
+broken-at sh bs at =
+    let m = headAt (sh .stamped) bs at in
+    at-start (leb (length bs) at) at _
+    (at-start (ltb (length bs) (at + stampLength (sh .stamped) + 4)) at _
+    (at-start (ltb (length bs) (blockEnd m)) at _
+    (at-start (not (timeOk (sh .rule) (m .time))) at _
+    (at-start (eqb (m .length) 0) at _
+    (at-start (not (zeros (part bs (m .start + m .length) (m .length % 2)))) at _
+    (found-broken m (blockEnd m) at))))))
+
+ending-place : (len k at : ℕ) (r : Refusal) → at ≤ len → ending len k at ≡ Faulty r → r .place ≤ len
+unfolding ending
+ending-place len k at r h = go (eqb at len)
+  where
+    go : (b : Bool) → pick b (Counted k) (Faulty (fault at)) ≡ Faulty r → r .place ≤ len
+    go true e = let z : _≡_ {A = ℕ} 0 1 = cc in absurd (omega arith)
+    go false e = let p : r .place ≡ at = cc in omega arith
+
+walk-place : (sh : Shape) (bs : List ℕ) (f k at : ℕ) (r : Refusal) → Walking sh bs k at → length bs < f + k → walkFrom sh bs f k ≡ Faulty r → r .place ≤ length bs
+walk-place sh bs zero k at r w hf e = absurd (omega arith)
+walk-place sh bs (suc f) k at r w hf e =
+    go (stopAt sh (length bs) k at) refl (blockAt sh bs at) refl (λ next v. walk-place sh bs f (k + 1) next r v (omega arith))
+  where
+    go : (b : Bool) → stopAt sh (length bs) k at ≡ b → (x : Block) → blockAt sh bs at ≡ x
+        → ((next : ℕ) → Walking sh bs (k + 1) next → walkFrom sh bs f (k + 1) ≡ Faulty r → r .place ≤ length bs) → r .place ≤ length bs
+    go true s x b rest = ending-place (length bs) k at r (w .2) (sym (walk-stop sh bs (suc f) k at (w .0) (omega arith) s) ∙ e)
+    go false s (Broken q) b rest =
+        let same : q ≡ r = cc (sym (walk-broken sh bs (suc f) k at (w .0) (omega arith) q s b) ∙ e) in
+        let p : r .place ≡ at = ap (λ (x : Refusal). x .place) (sym same ∙ broken-at sh bs at q b) in
+        omega (arith, w .2)
+    go false s (Found m next) b rest =
+        let pf : suc f - 1 ≡ f = omega arith in
+        rest next (walking-next sh bs k at m next w b) (rw pf at (sym (walk-found sh bs (suc f) k at (w .0) (omega arith) m next s b) ∙ e))
+
+pub faulty-place : (kind : ℕ) (rule : TimeRule) (bs : List ℕ) (r : Refusal) → checkBody kind rule bs ≡ Faulty r → r .place ≤ length bs
+unfolding checkBody walk
+faulty-place kind rule bs r e = go (openBody kind rule bs) refl e
+  where
+    go : (o : Opened) → openBody kind rule bs ≡ o → checkOpened o bs ≡ Faulty r → r .place ≤ length bs
+    go Carried q h = let z : _≡_ {A = ℕ} 0 1 = cc in absurd (omega arith)
+    go (Shaped sh) q h = walk-place sh bs (length bs + 1) 0 4 r (walking-first sh bs (open-long kind rule bs sh q)) (omega arith) h
+    go Wrong q h = let p : r .place ≡ 0 = cc in omega arith
+
+-- ---- messages
+
+ahead-fits : (sh : Shape) (bs : List ℕ) (n d j at : ℕ) → Reading sh bs n j at → j + d < n → blockEnd (messageOf sh bs (j + d)) ≤ length bs
+ahead-fits sh bs n zero j at now more =
+    let a = reading-ahead sh bs n j at now (omega arith) (headAt (sh .stamped) bs at) refl in
+    rw (add-zero, ← a .message) (a .fits)
+ahead-fits sh bs n (suc d) j at now more =
+    let a = reading-ahead sh bs n j at now (omega arith) (headAt (sh .stamped) bs at) refl in
+    let e : j + 1 + d ≡ j + suc d = omega arith in
+    rw (← e) (ahead-fits sh bs n d (j + 1) _ (a .next) (omega arith))
+
+-- the bytes of the k-th message, and their pad, end within the body
+pub message-fits : (kind : ℕ) (rule : TimeRule) (bs : List ℕ) (n k : ℕ) → checkBody kind rule bs ≡ Counted n → k < n
+    → blockEnd (messageIn kind rule bs k) ≤ length bs
+unfolding checkBody
+message-fits kind rule bs n k e more = go (openBody kind rule bs) refl e
+  where
+    go : (o : Opened) → openBody kind rule bs ≡ o → checkOpened o bs ≡ Counted n → blockEnd (messageIn kind rule bs k) ≤ length bs
+    go Carried q h = let z : n ≡ 0 = cc in absurd (omega arith)
+    go (Shaped sh) q h =
+        rw (message-shaped kind rule bs sh k q, ← zero-add k) (ahead-fits sh bs n k 0 4 (reading-first sh bs n (open-long kind rule bs sh q) h) (omega arith))
+    go Wrong q h = let z : _≡_ {A = ℕ} 0 1 = cc in absurd (omega arith)

@@ -1,0 +1,4 @@
+pub mod Header
+pub mod Rules
+pub mod Table
+pub mod Inner

@@ -1,0 +1,143 @@
+// The rules of plain numbers, for reader and writer alike, and the lengths of a packet's parts.
+ghost use mathlib.Core.Path.{_≡_};
+ghost use Prim.Native.Nat.{_+_, _%_, _^_, _≤_, _<_};
+ghost use Rattle.frame.specs.Header.{sumLength, bodyAt, unfilledLength, lengthFor};
+ghost use Rattle.frame.specs.Rules.{versionOk, typeOk, flagsOk, channelOk, limit as Rules·limit, lengthsOk, secondaryTimeOk, messageRule};
+ghost use Rattle.frame.specs.Table.{first, valueLines};
+use body::TimeRule;
+use body::time::rule_of;
+use body::time::time_ok;
+
+fn version_ok(version: u8) -> bool
+    ensures { λ r. ⌜ r ≡ versionOk version ⌝ }
+{
+    (1 <= version) & (version <= 9)
+}
+
+fn type_ok(kind: u8) -> bool
+    ensures { λ r. ⌜ r ≡ typeOk kind ⌝ }
+{
+    (kind <= 0x04)
+        | (kind == 0x09)
+        | (kind == 0x0A)
+        | (kind == 0x11)
+        | (kind == 0x12)
+        | (kind == 0x19)
+        | (kind == 0x1A)
+        | (kind == 0x21)
+        | (kind == 0x29)
+        | (kind == 0x30)
+        | (kind == 0x38)
+        | ((0x40 <= kind) & (kind <= 0x44))
+        | ((0x48 <= kind) & (kind <= 0x4A))
+        | (kind == 0x50)
+        | (kind == 0x58)
+        | (kind == 0x59)
+        | (kind == 0x60)
+        | (kind == 0x68)
+        | (kind == 0x69)
+        | ((0x70 <= kind) & (kind <= 0x72))
+        | ((0x78 <= kind) & (kind <= 0x7A))
+}
+
+fn flags_ok(flags: u8) -> bool
+    ensures { λ r. ⌜ r ≡ flagsOk flags ⌝ }
+{
+    (flags / 4 % 4 != 3) & ((flags / 64 % 2 == 0) | (flags / 128 % 2 == 1))
+}
+
+fn channel_ok(channel: u16, kind: u8) -> bool
+    ensures { λ r. ⌜ r ≡ channelOk channel kind ⌝ }
+{
+    (channel != 0) | (kind == 0x01) | (kind == 0x04)
+}
+
+// The most that P may be.
+fn limit(kind: u8) -> u64
+    ensures { λ r. ⌜ r ≡ Rules·limit kind ⌝ }
+{
+    if kind == 0x01 { 134_217_728 } else { 524_288 }
+}
+
+// The data sum's width in bytes.
+pub fn sum_length(flags: u8) -> u64
+    ensures { λ r. ⌜ (r ≡ sumLength flags) × (r ≤ 4) ⌝ }
+{
+    let code = flags % 4;
+    if code == 3 {
+        return 4;
+    }
+    code as u64
+}
+
+// Where the body stands: behind the primary header, and the secondary header if there is one.
+pub fn body_at(flags: u8) -> u64
+    ensures { λ r. ⌜ (r ≡ bodyAt flags) × (r ≤ 36) ⌝ }
+{
+    24 + 12 * ((flags / 128 % 2) as u64)
+}
+
+// P's parts without the filler, in 64 bits.
+pub fn unfilled_length(flags: u8, d: u64) -> u64
+    requires { ⌜ d < 2 ^ 63 ⌝ }
+    ensures { λ r. ⌜ (r ≡ unfilledLength flags d) × (r < 2 ^ 63 + 40) ⌝ }
+{
+    body_at(flags) + d + sum_length(flags)
+}
+
+// P of a packet with these flags and D: filler makes it a multiple of 4.
+pub fn length_for(flags: u8, d: u64) -> u64
+    requires { ⌜ d < 2 ^ 63 ⌝ }
+    ensures { λ r. ⌜ (r ≡ lengthFor flags d) × (r < 2 ^ 63 + 44) ⌝ }
+{
+    let parts = unfilled_length(flags, d);
+    parts + (4 - parts % 4) % 4
+}
+
+fn lengths_ok(kind: u8, flags: u8, p: u64, d: u64) -> bool
+    requires { ⌜ d < 2 ^ 63 ⌝ }
+    ensures { λ r. ⌜ r ≡ lengthsOk kind flags p d ⌝ }
+{
+    let parts = unfilled_length(flags, d);
+    (p % 4 == 0) & (p <= limit(kind)) & (1 <= d) & (parts <= p) & (p <= parts + 3)
+}
+
+// 5 to 9 of the table, or 0.
+pub fn value_refusal(channel: u16, version: u8, flags: u8, kind: u8, p: u64, d: u64) -> u8
+    requires { ⌜ d < 2 ^ 63 ⌝ }
+    ensures { λ r. ⌜ r ≡ first (valueLines channel version flags kind p d) ⌝ }
+{
+    if !version_ok(version) {
+        return 5;
+    }
+    if !type_ok(kind) {
+        return 6;
+    }
+    if !flags_ok(flags) {
+        return 7;
+    }
+    if !channel_ok(channel, kind) {
+        return 8;
+    }
+    if !lengths_ok(kind, flags, p, d) {
+        return 9;
+    }
+    0
+}
+
+// Whether a secondary time is in form, by the flags' format.
+pub fn secondary_time_ok(flags: u8, time: u64) -> bool
+    ensures { λ r. ⌜ r ≡ secondaryTimeOk flags time ⌝ }
+{
+    time_ok(rule_of(2 + flags / 4 % 4), time)
+}
+
+// The rule of message times.
+pub fn message_rule(flags: u8) -> TimeRule
+    ensures { λ r. ⌜ r ≡ messageRule flags ⌝ }
+{
+    if flags / 64 % 2 == 0 {
+        return rule_of(1);
+    }
+    rule_of(2 + flags / 4 % 4)
+}
