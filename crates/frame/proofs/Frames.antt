@@ -147,7 +147,7 @@ framed-passes w f =
 
 -- ---- what 2 to 10 leave
 
-limit-cap : (kind : ℕ) → limit kind ≤ 134217728
+pub limit-cap : (kind : ℕ) → limit kind ≤ 134217728
 unfolding limit
 limit-cap kind = either (eqb kind 0x01)
   where
@@ -159,26 +159,43 @@ pub head-enough : (w : List ℕ) → first (headLines w) ≡ 0 → 24 ≤ length
 unfolding headLines
 head-enough w e = leb-true 24 (length w) (holds _ _ _ tt e .0)
 
-pub sound : (w : List ℕ) → first (headLines w) ≡ 0 → first (valuesIn w) ≡ 0 → first (wholeLines w) ≡ 0 → Sound w
-unfolding wholeLines
-sound w head values there =
-    let p = packetLength w in
-    let parts = unfilledLength (flagsIn w) (dataLength w) in
+-- what the length rules say of P and D
+pub record Lengths (kind flags p d : ℕ) : Type 0 where
+  pub fours : p % 4 ≡ 0
+  pub within : p ≤ limit kind
+  pub some : 1 ≤ d
+  pub parts : unfilledLength flags d ≤ p
+  pub few : p ≤ unfilledLength flags d + 3
+
+pub lengths-say : (kind flags p d : ℕ) → lengthsOk kind flags p d ≡ true → Lengths kind flags p d
+lengths-say kind flags p d e =
+    let parts = unfilledLength flags d in
     let a = eqb (p % 4) 0 in
-    let b = leb p (limit (kindIn w)) in
-    let c = leb 1 (dataLength w) in
-    let d = leb parts p in
-    let o₅ = and-true (a && b && c && d) (leb p (parts + 3)) (valued-says _ _ _ _ _ _ values .lengthsOk) in
-    let o₄ = and-true (a && b && c) d (o₅ .0) in
+    let b = leb p (limit kind) in
+    let c = leb 1 d in
+    let o₅ = and-true (a && b && c && leb parts p) (leb p (parts + 3)) e in
+    let o₄ = and-true (a && b && c) (leb parts p) (o₅ .0) in
     let o₃ = and-true (a && b) c (o₄ .0) in
     let o₂ = and-true a b (o₃ .0) in
     record {
+      fours = eqb-true (p % 4) 0 (o₂ .0);
+      within = leb-true p (limit kind) (o₂ .1);
+      some = leb-true 1 d (o₃ .1);
+      parts = leb-true parts p (o₄ .1);
+      few = leb-true p (parts + 3) (o₅ .1);
+    }
+
+pub sound : (w : List ℕ) → first (headLines w) ≡ 0 → first (valuesIn w) ≡ 0 → first (wholeLines w) ≡ 0 → Sound w
+unfolding wholeLines
+sound w head values there =
+    let n = lengths-say (kindIn w) (flagsIn w) (packetLength w) (dataLength w) (valued-says _ _ _ _ _ _ values .lengthsOk) in
+    record {
       header = head-enough w head;
       there = leb-true _ _ (holds _ _ _ tt there .0);
-      capped = omega (arith, leb-true p (limit (kindIn w)) (o₂ .1), limit-cap (kindIn w));
-      parts = leb-true _ _ (o₄ .1);
-      some = leb-true _ _ (o₃ .1);
-      fours = eqb-true _ _ (o₂ .0);
+      capped = omega (arith, n .within, limit-cap (kindIn w));
+      parts = n .parts;
+      some = n .some;
+      fours = n .fours;
     }
 
 pub frame-sound : (w : List ℕ) → first (frameLines w) ≡ 0 → Sound w

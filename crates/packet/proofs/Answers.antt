@@ -1,0 +1,332 @@
+-- What the calls say, from what the functions below them say. Assumes nothing.
+use mathlib.Core.Path.{_≡_, refl, sym, ap, _∙_}
+use mathlib.Core.List.{List, []}
+use mathlib.Core.Bool.{Bool, true, false, not, _&&_}
+use Prim.Native.Nat.{ℕ, _+_, _*_, _-_, _/_, _%_, _≤_, _<_, min}
+use native.Mathlib.Omega.{arith}
+use native.Mathlib.Decide.{decLe}
+use lib.ListN.{length}
+use lib.Dec.{leb, ltb, eqb}
+use borrow.Author.Tests.{le-leb, lt-leb, lt-ltb, le-ltb, leb-true, ltb-true, eq-eqb, ne-eqb}
+use Rattle.units.specs.Units.{part, field}
+use Rattle.units.specs.Choice.{pick}
+use Rattle.units.proofs.Choices.{and-true}
+use Rattle.units.proofs.Parts.{length-part}
+use Rattle.body.specs.Walk.{refused, fault}
+use Rattle.body.specs.Answers.{checkBody, messageIn, messageAt, pickCounted, listOf, listCounted, startsOf, lengthsOf, listAfter as Body·listAfter}
+use Rattle.body.proofs.Bounds.{faulty-place, message-fits}
+use Rattle.body.specs.declared.TimeRule.{TimeRule}
+use Rattle.body.specs.declared.Refusal.{Refusal}
+use Rattle.body.specs.declared.Message.{Message}
+use Rattle.body.specs.declared.Checked.{Checked}
+use Rattle.body.specs.declared.Checked.the-variants.{Counted, Faulty}
+use Rattle.body.specs.declared.Picked.{Picked}
+use Rattle.body.specs.declared.Picked.the-variants.{One, Unread, Missing}
+use Rattle.body.specs.declared.Listed as body-listed
+use Rattle.body.specs.declared.Listed.the-variants.{Count, Unlisted as Body·Unlisted, NoRoom}
+use Rattle.frame.specs.Header.{packetLength, dataLength, flagsIn, kindIn, headSumIn, sumLength, secondaryLength, bodyAt, bodyIn, fieldsIn}
+use Rattle.frame.specs.Rules.{messageRule}
+use Rattle.frame.specs.Table.{first, frameLines}
+use Rattle.frame.specs.Inner.{Sound, Measured}
+use Rattle.frame.specs.declared.Layout.{Layout}
+use Rattle.frame.specs.declared.Fields.{Fields}
+use Rattle.frame.proofs.Tables.{stands, passes, holds}
+use Rattle.frame.proofs.Frames.{frame-sound}
+use Rattle.packet.specs.Read.{inside, window, outerLines, outerRefusal, partAt, packetIn, bodyChecked, bodyAnswer, readPacket}
+use Rattle.packet.specs.Messages.{countOf, messageCount, kthMessage, listAnswer, listPacket, listAfter, starts, lengths, messageAnswer, messagePacket}
+use Rattle.packet.specs.declared.Packet.{Packet}
+use Rattle.packet.specs.declared.PacketRead.{PacketRead}
+use Rattle.packet.specs.declared.PacketRead.the-variants.{Accepted, Refused}
+use Rattle.packet.specs.declared.PacketList.{PacketList}
+use Rattle.packet.specs.declared.PacketList.the-variants.{Listed, Unlisted}
+use Rattle.packet.specs.declared.PacketMessage.{PacketMessage}
+use Rattle.packet.specs.declared.PacketMessage.the-variants.{Given, Withheld}
+
+-- ---- 1 to 14
+
+module _ (buf : List ℕ) (s e : ℕ) where
+  pub outer-disordered : e < s → 1 ≡ outerRefusal buf s e
+  unfolding outerRefusal outerLines
+  outer-disordered h = stands 1 (frameLines (window buf s e)) (rw (lt-leb s e h))
+
+  pub outer-past : s ≤ e → length buf < e → 1 ≡ outerRefusal buf s e
+  unfolding outerRefusal outerLines
+  outer-past h past = stands 1 (frameLines (window buf s e)) (rw (le-leb s e h, lt-leb e (length buf) past))
+
+  pub outer-inside : (n : ℕ) → s ≤ e → e ≤ length buf → n ≡ first (frameLines (window buf s e)) → n ≡ outerRefusal buf s e
+  unfolding outerRefusal outerLines
+  outer-inside n h g q = passes 1 n (frameLines (window buf s e)) (rw (le-leb s e h, le-leb e (length buf) g)) q
+
+-- a window that 1 to 14 let through
+pub record Open (buf : List ℕ) (s e : ℕ) : Type 0 where
+  pub ordered : s ≤ e
+  pub within : e ≤ length buf
+  pub framed : first (frameLines (window buf s e)) ≡ 0
+  pub sound : Sound (window buf s e)
+  pub reach : s + length (window buf s e) ≡ e
+
+pub outer-open : (buf : List ℕ) (s e : ℕ) → outerRefusal buf s e ≡ 0 → Open buf s e
+unfolding outerRefusal outerLines
+outer-open buf s e z =
+    let w = window buf s e in
+    let l = holds 1 (inside buf s e) (frameLines w) tt z in
+    let i = and-true (leb s e) (leb e (length buf)) (l .0) in
+    let o : s ≤ e = leb-true s e (i .0) in
+    let f : e ≤ length buf = leb-true e (length buf) (i .1) in
+    record {
+      ordered = o;
+      within = f;
+      framed = l .1;
+      sound = frame-sound w (l .1);
+      reach = omega (arith, length-part buf s (e - s) (omega arith));
+    }
+
+-- ---- the three readers behind them; n is what the code found
+
+module _ (buf : List ℕ) (s e n : ℕ) (is : n ≡ outerRefusal buf s e) where
+  pub opened : n ≡ 0 → Open buf s e
+  opened z = outer-open buf s e (sym is ∙ z)
+
+  pub read-refused : (r : Refusal) → (n ≡ 0 → ⊥) → r ≡ refused n s 0 → Refused r ≡ readPacket buf s e
+  unfolding readPacket
+  read-refused r other q = rw (q, ← is, ne-eqb n 0 other)
+
+  pub read-on : (x : PacketRead) → n ≡ 0 → x ≡ bodyAnswer (bodyChecked (window buf s e)) (window buf s e) s → x ≡ readPacket buf s e
+  unfolding readPacket
+  read-on x z q = let e₀ : outerRefusal buf s e ≡ 0 = sym is ∙ z in q ∙ rw e₀
+
+  pub list-refused : (m k : ℕ) (r : Refusal) → (n ≡ 0 → ⊥) → r ≡ refused n s 0 → Unlisted r ≡ listPacket buf s e m k
+  unfolding listPacket listAnswer
+  list-refused m k r other q = rw (← read-refused r other q)
+
+  pub list-on : (m k : ℕ) (x : PacketList) → n ≡ 0
+      → x ≡ listAnswer (bodyAnswer (bodyChecked (window buf s e)) (window buf s e) s) s (messageCount (window buf s e)) (min m k)
+      → x ≡ listPacket buf s e m k
+  unfolding listPacket
+  list-on m k x z q = q ∙ ap (λ (p : PacketRead). listAnswer p s (messageCount (window buf s e)) (min m k)) (read-on _ z refl)
+
+  pub message-refused : (k : ℕ) (r : Refusal) → (n ≡ 0 → ⊥) → r ≡ refused n s 0 → Withheld r ≡ messagePacket buf s e k
+  unfolding messagePacket messageAnswer
+  message-refused k r other q = rw (← read-refused r other q)
+
+  pub message-on : (k : ℕ) (x : PacketMessage) → n ≡ 0
+      → x ≡ messageAnswer (bodyAnswer (bodyChecked (window buf s e)) (window buf s e) s) s (messageCount (window buf s e)) k (kthMessage (window buf s e) k)
+      → x ≡ messagePacket buf s e k
+  unfolding messagePacket
+  message-on k x z q = q ∙ ap (λ (p : PacketRead). messageAnswer p s (messageCount (window buf s e)) k (kthMessage (window buf s e) k)) (read-on _ z refl)
+
+-- a refused call leaves a list as it was
+pub list-kept : (r : Refusal) (entries : ℕ → ℕ) (old : List ℕ) → old ≡ listAfter (Unlisted r) entries old
+unfolding listAfter
+list-kept r entries old = refl
+
+-- ---- a packet whose frame is right: w its window's bytes, l where its parts begin, c what the body's check said
+
+module _ (w : List ℕ) (l : Layout) (m : Measured w l) (rule : TimeRule) (ruled : rule ≡ messageRule (flagsIn w)) where
+  body-is : part w (l .body) (l .filler - l .body) ≡ bodyIn w
+  body-is =
+      let n : l .filler - l .body ≡ dataLength w = omega (arith, m .filler, m .body) in
+      rw (n, m .body)
+
+  pub checked-is : checkBody (kindIn w) rule (part w (l .body) (l .filler - l .body)) ≡ bodyChecked w
+  unfolding bodyChecked
+  checked-is = rw (body-is, ruled)
+
+  pub message-is : (k : ℕ) → messageIn (kindIn w) rule (part w (l .body) (l .filler - l .body)) k ≡ messageIn (kindIn w) (messageRule (flagsIn w)) (bodyIn w) k
+  message-is k = rw (body-is, ruled)
+
+  body-length : Sound w → length (part w (l .body) (l .filler - l .body)) ≡ dataLength w
+  body-length s = ap length body-is ∙ length-part w (bodyAt (flagsIn w)) (dataLength w) (omega (arith, s .parts, s .there))
+
+  -- a fault's place is within the window
+  pub fault-reach : Sound w → (f : Refusal) → checkBody (kindIn w) rule (part w (l .body) (l .filler - l .body)) ≡ Faulty f → l .body + f .place ≤ length w
+  fault-reach s f e =
+      let p = faulty-place (kindIn w) rule (part w (l .body) (l .filler - l .body)) f e in
+      omega (arith, p, body-length s, m .body, s .parts, s .there)
+
+module _ (c : Checked) (w : List ℕ) (at : ℕ) (is : c ≡ bodyChecked w) where
+  pub answer-counted : (n : ℕ) (p : Packet) → c ≡ Counted n → p ≡ packetIn w at → Accepted p ≡ bodyAnswer (bodyChecked w) w at
+  unfolding bodyAnswer
+  answer-counted n p e q = rw (← is, e, q)
+
+  pub answer-faulty : (f r : Refusal) (body : ℕ) → c ≡ Faulty f → body ≡ bodyAt (flagsIn w) → r ≡ fault (at + body + f .place)
+      → Refused r ≡ bodyAnswer (bodyChecked w) w at
+  unfolding bodyAnswer
+  answer-faulty f r body e b q = rw (← is, e, q, b)
+
+-- the packet's record
+pub packet-is : (w : List ℕ) (at : ℕ) (l : Layout) (f : Fields) (p d h x : ℕ) → Sound w → Measured w l → f ≡ fieldsIn w → p ≡ packetLength w → d ≡ dataLength w
+    → h ≡ headSumIn w → x ≡ field w (l .sum) (sumLength (flagsIn w))
+    → record {
+      fields = f;
+      length = p;
+      datalength = d;
+      headsum = h;
+      datasum = x;
+      header = partAt at 24;
+      secondary = partAt (at + 24) (l .body - 24);
+      body = partAt (at + l .body) (l .filler - l .body);
+      filler = partAt (at + l .filler) (l .sum - l .filler);
+      sum = partAt (at + l .sum) (p - l .sum);
+    }
+    ≡ packetIn w at
+unfolding packetIn
+packet-is w at l f p d h x s m ef ep ed eh ex =
+    let e₁ : l .body - 24 ≡ secondaryLength (flagsIn w) = omega (arith, m .body) in
+    let e₂ : l .filler - l .body ≡ dataLength w = omega (arith, m .filler, m .body) in
+    let e₃ : p - l .sum ≡ sumLength (flagsIn w) = omega (arith, m .sum, s .parts) in
+    λ i. record {
+      fields = ef i;
+      length = ep i;
+      datalength = ed i;
+      headsum = eh i;
+      datasum = (ex ∙ ap (λ (n : ℕ). field w n (sumLength (flagsIn w))) (m .sum)) i;
+      header = partAt at 24;
+      secondary = partAt (at + 24) (e₁ i);
+      body = partAt (at + m .body i) (e₂ i);
+      filler = partAt (at + m .filler i) (m .sum i - m .filler i);
+      sum = partAt (at + m .sum i) (e₃ i);
+    }
+
+-- ---- the lists
+
+-- the body's answer as the packet's
+abbrev pub fromListed : ℕ → ℕ → body-listed.Listed → PacketList
+fromListed at body (Count n) = Listed n
+fromListed at body (Body·Unlisted f) = Unlisted (fault (at + body + f .place))
+fromListed at body (NoRoom n) = Unlisted (refused 16 at n)
+
+room-same : (at body m n : ℕ) → fromListed at body (pick (leb n m) (Count n) (NoRoom n)) ≡ pick (ltb m n) (Unlisted (refused 16 at n)) (Listed n)
+room-same at body m n = go (decLe n m)
+  where
+    go : Dec (n ≤ m) → fromListed at body (pick (leb n m) (Count n) (NoRoom n)) ≡ pick (ltb m n) (Unlisted (refused 16 at n)) (Listed n)
+    go (yes h) = rw (le-leb n m h, le-ltb m n h)
+    go (no h) = rw (lt-leb n m (omega arith), lt-ltb m n (omega arith))
+
+pub listed-is : (w : List ℕ) (at len₁ len₂ : ℕ) (c : Checked)
+    → fromListed at (bodyAt (flagsIn w)) (listCounted len₁ len₂ c) ≡ listAnswer (bodyAnswer c w at) at (countOf c) (min len₁ len₂)
+unfolding listCounted listAnswer bodyAnswer
+listed-is w at len₁ len₂ (Counted n) = room-same at (bodyAt (flagsIn w)) (min len₁ len₂) n
+listed-is w at len₁ len₂ (Faulty f) = refl
+
+pub after-listed : (at body : ℕ) (x : body-listed.Listed) (f g : ℕ → ℕ) (old : List ℕ) → f ≡ g → Body·listAfter x f old ≡ listAfter (fromListed at body x) g old
+unfolding Body·listAfter listAfter
+after-listed at body (Count n) f g old e = rw e
+after-listed at body (Body·Unlisted r) f g old e = refl
+after-listed at body (NoRoom n) f g old e = refl
+
+module _ (w : List ℕ) (at : ℕ) (l : Layout) (m : Measured w l) (rule : TimeRule) (ruled : rule ≡ messageRule (flagsIn w)) where
+  abbrev bytes : List ℕ
+  bytes = part w (l .body) (l .filler - l .body)
+
+  list-answer : (len₁ len₂ : ℕ) → fromListed at (l .body) (listOf (kindIn w) rule bytes len₁ len₂) ≡ listAnswer (bodyAnswer (bodyChecked w) w at) at (messageCount w) (min len₁ len₂)
+  unfolding listOf messageCount
+  list-answer len₁ len₂ = rw (checked-is w l m rule ruled, m .body) (listed-is w at len₁ len₂ (bodyChecked w))
+
+  starts-are : startsOf (l .body) (messageIn (kindIn w) rule bytes) ≡ starts w
+  unfolding kthMessage
+  starts-are = λ i k. m .body i + message-is w l m rule ruled k i .start
+
+  lengths-are : lengthsOf (messageIn (kindIn w) rule bytes) ≡ lengths w
+  unfolding kthMessage
+  lengths-are = λ i k. message-is w l m rule ruled k i .length
+
+  -- x is what the body's lister said, in the case y; a is what the code makes of it
+  pub list-says : (len₁ len₂ : ℕ) (x y : body-listed.Listed) (a : PacketList) (olds news oldl newl : List ℕ) → x ≡ y → a ≡ fromListed at (l .body) y
+      → x ≡ listOf (kindIn w) rule bytes len₁ len₂
+      → news ≡ Body·listAfter x (startsOf (l .body) (messageIn (kindIn w) rule bytes)) olds
+      → newl ≡ Body·listAfter x (lengthsOf (messageIn (kindIn w) rule bytes)) oldl
+      → (a ≡ listAnswer (bodyAnswer (bodyChecked w) w at) at (messageCount w) (min len₁ len₂))
+      × (news ≡ listAfter a (starts w) olds)
+      × (newl ≡ listAfter a (lengths w) oldl)
+  list-says len₁ len₂ x y a olds news oldl newl given made says lists listl =
+      let e : a ≡ fromListed at (l .body) x = made ∙ ap (fromListed at (l .body)) (sym given) in (
+        e ∙ ap (fromListed at (l .body)) says ∙ list-answer len₁ len₂,
+        lists ∙ after-listed at (l .body) x _ (starts w) olds starts-are ∙ ap (λ (z : PacketList). listAfter z (starts w) olds) (sym e),
+        listl ∙ after-listed at (l .body) x _ (lengths w) oldl lengths-are ∙ ap (λ (z : PacketList). listAfter z (lengths w) oldl) (sym e),
+      )
+
+pub unlisted-faulty : (kind : ℕ) (rule : TimeRule) (bs : List ℕ) (len₁ len₂ : ℕ) (f : Refusal) → listOf kind rule bs len₁ len₂ ≡ Body·Unlisted f → checkBody kind rule bs ≡ Faulty f
+unfolding listOf listCounted
+unlisted-faulty kind rule bs len₁ len₂ f e = go (checkBody kind rule bs) refl e
+  where
+    full : (t : Bool) (n : ℕ) → pick t (Count n) (NoRoom n) ≡ Body·Unlisted f → checkBody kind rule bs ≡ Faulty f
+    full true n q = let z : _≡_ {A = ℕ} 0 1 = cc in absurd (omega arith)
+    full false n q = let z : _≡_ {A = ℕ} 0 1 = cc in absurd (omega arith)
+
+    go : (c : Checked) → checkBody kind rule bs ≡ c → listCounted len₁ len₂ c ≡ Body·Unlisted f → checkBody kind rule bs ≡ Faulty f
+    go (Counted n) h q = full (leb n (min len₁ len₂)) n q
+    go (Faulty g) h q = h ∙ cc
+
+-- ---- one message
+
+-- a message of the body as the packet's
+abbrev pub ahead : ℕ → Message → Message
+ahead body m = record { time = m .time; id = m .id; start = body + m .start; length = m .length }
+
+abbrev pub fromPicked : ℕ → ℕ → Picked → PacketMessage
+fromPicked at body (One m) = Given (ahead body m)
+fromPicked at body (Unread f) = Withheld (fault (at + body + f .place))
+fromPicked at body Missing = Withheld (refused 17 at 0)
+
+number-same : (at body k n : ℕ) (m : Message) → fromPicked at body (pick (ltb k n) (One m) Missing) ≡ pick (leb n k) (Withheld (refused 17 at 0)) (Given (ahead body m))
+number-same at body k n m = go (decLe n k)
+  where
+    go : Dec (n ≤ k) → fromPicked at body (pick (ltb k n) (One m) Missing) ≡ pick (leb n k) (Withheld (refused 17 at 0)) (Given (ahead body m))
+    go (yes h) = rw (le-leb n k h, le-ltb k n h)
+    go (no h) = rw (lt-leb n k (omega arith), lt-ltb k n (omega arith))
+
+pub picked-is : (w : List ℕ) (at k : ℕ) (m : Message) (c : Checked)
+    → fromPicked at (bodyAt (flagsIn w)) (pickCounted k m c) ≡ messageAnswer (bodyAnswer c w at) at (countOf c) k (ahead (bodyAt (flagsIn w)) m)
+unfolding pickCounted messageAnswer bodyAnswer
+picked-is w at k m (Counted n) = number-same at (bodyAt (flagsIn w)) k n m
+picked-is w at k m (Faulty f) = refl
+
+module _ (w : List ℕ) (at : ℕ) (l : Layout) (m : Measured w l) (rule : TimeRule) (ruled : rule ≡ messageRule (flagsIn w)) (k : ℕ) where
+  abbrev whole : List ℕ
+  whole = part w (l .body) (l .filler - l .body)
+
+  message-answer : fromPicked at (l .body) (messageAt (kindIn w) rule whole k) ≡ messageAnswer (bodyAnswer (bodyChecked w) w at) at (messageCount w) k (kthMessage w k)
+  unfolding messageAt messageCount kthMessage
+  message-answer =
+      rw (checked-is w l m rule ruled, message-is w l m rule ruled k, m .body)
+      (picked-is w at k (messageIn (kindIn w) (messageRule (flagsIn w)) (bodyIn w) k) (bodyChecked w))
+
+  -- x is what the body's call said, in the case y; a is what the code makes of it
+  pub message-says : (x y : Picked) (a : PacketMessage) → x ≡ y → a ≡ fromPicked at (l .body) y → x ≡ messageAt (kindIn w) rule whole k
+      → a ≡ messageAnswer (bodyAnswer (bodyChecked w) w at) at (messageCount w) k (kthMessage w k)
+  message-says x y a given made says = made ∙ ap (fromPicked at (l .body)) (sym given ∙ says) ∙ message-answer
+
+pub unread-faulty : (kind : ℕ) (rule : TimeRule) (bs : List ℕ) (k : ℕ) (f : Refusal) → messageAt kind rule bs k ≡ Unread f → checkBody kind rule bs ≡ Faulty f
+unfolding messageAt pickCounted
+unread-faulty kind rule bs k f e = go (checkBody kind rule bs) refl e
+  where
+    some : (t : Bool) → pick t (One (messageIn kind rule bs k)) Missing ≡ Unread f → checkBody kind rule bs ≡ Faulty f
+    some true q = let z : _≡_ {A = ℕ} 0 1 = cc in absurd (omega arith)
+    some false q = let z : _≡_ {A = ℕ} 0 1 = cc in absurd (omega arith)
+
+    go : (c : Checked) → checkBody kind rule bs ≡ c → pickCounted k (messageIn kind rule bs k) c ≡ Unread f → checkBody kind rule bs ≡ Faulty f
+    go (Counted n) h q = some (ltb k n) q
+    go (Faulty g) h q = h ∙ cc
+
+-- a message's bytes begin within the body
+one-start : (kind : ℕ) (rule : TimeRule) (bs : List ℕ) (k : ℕ) (m : Message) → messageAt kind rule bs k ≡ One m → m .start ≤ length bs
+unfolding messageAt pickCounted
+one-start kind rule bs k m e = go (checkBody kind rule bs) refl e
+  where
+    inside-of : (n : ℕ) → checkBody kind rule bs ≡ Counted n → (t : Bool) → ltb k n ≡ t → pick t (One (messageIn kind rule bs k)) Missing ≡ One m → m .start ≤ length bs
+    inside-of n h true t q =
+        let same : messageIn kind rule bs k .start ≡ m .start = cc in
+        omega (arith, message-fits kind rule bs n k h (ltb-true k n t), same)
+    inside-of n h false t q = let z : _≡_ {A = ℕ} 0 1 = cc in absurd (omega arith)
+
+    go : (c : Checked) → checkBody kind rule bs ≡ c → pickCounted k (messageIn kind rule bs k) c ≡ One m → m .start ≤ length bs
+    go (Counted n) h q = inside-of n h (ltb k n) refl q
+    go (Faulty g) h q = let z : _≡_ {A = ℕ} 0 1 = cc in absurd (omega arith)
+
+-- and within the window
+pub start-reach : (w : List ℕ) (l : Layout) (m : Measured w l) (rule : TimeRule) → rule ≡ messageRule (flagsIn w) → Sound w → (k : ℕ) (x : Message)
+    → messageAt (kindIn w) rule (part w (l .body) (l .filler - l .body)) k ≡ One x → l .body + x .start ≤ length w
+start-reach w l m rule ruled s k x e =
+    let p = one-start (kindIn w) rule (part w (l .body) (l .filler - l .body)) k x e in
+    omega (arith, p, body-length w l m rule ruled s, m .body, s .parts, s .there)

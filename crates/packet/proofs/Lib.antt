@@ -1,0 +1,5 @@
+pub mod Answers
+pub mod Window
+pub mod Own
+pub mod Puts
+pub mod Writes

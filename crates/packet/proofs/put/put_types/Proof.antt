@@ -1,0 +1,23 @@
+use mathlib.Core.List.{_∷_, []}
+use native.Mathlib.Omega.{arith}
+use lib.ListN.{length-set}
+use lib.Seq.{sets-eq}
+use borrow.Author.Needs.{needs}
+use Rattle.packet.proofs.put.put_types.Statement.{statement}
+use Rattle.packet.proofs.put.put_types.Tie as tie
+
+returns : tie.Need-returns
+returns c =
+    let f = c .args .fields in
+    sets-eq (f .version ∷ f .sequence ∷ f .flags ∷ f .kind ∷ []) (c .args .out .now) 12 (c .pre)
+
+pub put-types-spec : {M : Type 1} → statement M
+put-types-spec =
+    tie.close
+    (tie.spec
+    (λ c. search needs)
+    (λ c. simp length-set (omega arith))
+    (λ c. simp length-set (omega arith))
+    (λ c. search needs)
+    (λ c. search needs)
+    returns)

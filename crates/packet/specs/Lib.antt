@@ -1,0 +1,4 @@
+pub mod Read
+pub mod Messages
+pub mod Bytes
+pub mod Write

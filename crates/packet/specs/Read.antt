@@ -1,0 +1,110 @@
+-- The one-packet reader (document 01, "The window" and "What each call says no to").
+use mathlib.Core.List.{List, _∷_}
+use mathlib.Core.Bool.{Bool, not, _&&_}
+use Prim.Native.Nat.{ℕ, _+_, _-_}
+use lib.ListN.{length}
+use lib.Dec.{leb, eqb}
+use Rattle.units.specs.Units.{part}
+use Rattle.units.specs.Choice.{pick}
+use Rattle.body.specs.Walk.{refused, fault}
+use Rattle.body.specs.Answers.{checkBody}
+use Rattle.body.specs.declared.Refusal.{Refusal}
+use Rattle.body.specs.declared.Checked.{Checked}
+use Rattle.body.specs.declared.Checked.the-variants.{Counted, Faulty}
+use Rattle.frame.specs.Header.{packetLength, dataLength, flagsIn, kindIn, headSumIn, sumLength, secondaryLength, bodyAt, fillerAt, sumAt, fillerLength, bodyIn, dataSumIn, fieldsIn}
+use Rattle.frame.specs.Rules.{messageRule}
+use Rattle.frame.specs.Table.{Line, line, first, frameLines}
+use Rattle.packet.specs.declared.Part.{Part}
+use Rattle.packet.specs.declared.Packet.{Packet}
+use Rattle.packet.specs.declared.PacketRead.{PacketRead}
+use Rattle.packet.specs.declared.PacketRead.the-variants.{Accepted, Refused}
+
+-- ---- the window
+
+-- a start and a filled end in a buffer
+abbrev pub inside : List ℕ → ℕ → ℕ → Bool
+inside buf start end = leb start end && leb end (length buf)
+
+-- the bytes between them
+abbrev pub window : List ℕ → ℕ → ℕ → List ℕ
+window buf start end = part buf start (end - start)
+
+-- 1 to 14, all placed at the packet's start
+unfoldable pub outerLines : List ℕ → ℕ → ℕ → List Line
+outerLines buf start end = line 1 (inside buf start end) ∷ frameLines (window buf start end)
+
+-- the first of them that applies, or 0
+unfoldable pub outerRefusal : List ℕ → ℕ → ℕ → ℕ
+outerRefusal buf start end = first (outerLines buf start end)
+
+-- ---- an accepted packet: its fields, and the place and length of its five parts
+
+abbrev pub partAt : ℕ → ℕ → Part
+partAt at n = record { at = at; length = n }
+
+-- the packet at the start of a window's bytes w, which stand at `at` in their buffer
+unfoldable pub packetIn : List ℕ → ℕ → Packet
+packetIn w at =
+    record {
+      fields = fieldsIn w;
+      length = packetLength w;
+      datalength = dataLength w;
+      headsum = headSumIn w;
+      datasum = dataSumIn w;
+      header = partAt at 24;
+      secondary = partAt (at + 24) (secondaryLength (flagsIn w));
+      body = partAt (at + bodyAt (flagsIn w)) (dataLength w);
+      filler = partAt (at + fillerAt w) (fillerLength w);
+      sum = partAt (at + sumAt w) (sumLength (flagsIn w));
+    }
+
+-- ---- the answer
+
+-- what the body's layout says: the number of its messages (0 for a type that isn't opened), or its first fault
+unfoldable pub bodyChecked : List ℕ → Checked
+bodyChecked w = checkBody (kindIn w) (messageRule (flagsIn w)) (bodyIn w)
+
+-- 15, at the channel word or the block at fault; else the packet is accepted
+unfoldable pub bodyAnswer : Checked → List ℕ → ℕ → PacketRead
+bodyAnswer (Counted n) w at = Accepted (packetIn w at)
+bodyAnswer (Faulty f) w at = Refused (fault (at + bodyAt (flagsIn w) + f .place))
+
+-- 1 to 14 from the top, then 15
+unfoldable pub readPacket : List ℕ → ℕ → ℕ → PacketRead
+readPacket buf start end =
+    pick (not (eqb (outerRefusal buf start end) 0))
+    (Refused (refused (outerRefusal buf start end) start 0))
+    (bodyAnswer (bodyChecked (window buf start end)) (window buf start end) start)
+
+-- ---- document 01's number and values of an answer
+
+-- no refusal: number 0, and no place
+abbrev pub noRefusal : Refusal
+noRefusal = refused 0 0 0
+
+abbrev pub noPart : Part
+noPart = partAt 0 0
+
+abbrev pub noPacket : Packet
+noPacket =
+    record {
+      fields = record { channel = 0; version = 0; sequence = 0; flags = 0; kind = 0; rtc = 0; time = 0 };
+      length = 0;
+      datalength = 0;
+      headsum = 0;
+      datasum = 0;
+      header = noPart;
+      secondary = noPart;
+      body = noPart;
+      filler = noPart;
+      sum = noPart;
+    }
+
+pub record Told : Type 0 where
+  pub refusal : Refusal
+  pub packet : Packet
+
+-- a refusal returns its number and place; all other results are zero
+abbrev pub told : PacketRead → Told
+told (Accepted p) = record { refusal = noRefusal; packet = p }
+told (Refused r) = record { refusal = r; packet = noPacket }

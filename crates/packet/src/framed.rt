@@ -1,0 +1,137 @@
+// The reader's tests, and what the readers say of a packet whose frame has passed them.
+ghost use mathlib.Core.Path.{_≡_};
+ghost use Prim.Native.Nat.{_+_, _^_, _<_, min};
+ghost use lib.ListN.{length};
+ghost use Rattle.frame.specs.Inner.{Sound};
+ghost use Rattle.packet.specs.Read.{outerRefusal, packetIn, bodyChecked, bodyAnswer};
+ghost use Rattle.packet.specs.Messages.{messageCount, kthMessage, listAnswer, listAfter, starts as Messages·starts, lengths as Messages·lengths, messageAnswer};
+use crate::Packet;
+use crate::PacketList;
+use crate::PacketMessage;
+use crate::PacketRead;
+use crate::Part;
+use body::Checked;
+use body::Listed;
+use body::Message;
+use body::Picked;
+use body::check_body;
+use body::fault;
+use body::refuse;
+use frame::head::read_sum;
+use frame::rules::message_rule;
+use frame::table::fields_in;
+use frame::table::frame_refusal;
+use frame::table::measure;
+use units::read16;
+use units::read32;
+
+// The first of 1 to 14 that applies, or 0.
+pub fn outer_refusal(buf: &[u8], start: usize, end: usize) -> u8
+    ensures { λ r. ⌜ r ≡ outerRefusal (now (buf .entry)) start end ⌝ }
+{
+    if end < start {
+        return 1;
+    }
+    if buf.len() < end {
+        return 1;
+    }
+    frame_refusal(&buf[start..end])
+}
+
+// 15, or the packet.
+pub fn read_framed(w: &[u8], at: usize) -> PacketRead
+    requires { ⌜ Sound (now w) ⌝ }
+    requires { ⌜ at + length (now w) < 2 ^ 64 ⌝ }
+    ensures { λ r. ⌜ r ≡ bodyAnswer (bodyChecked (now (w .entry))) (now (w .entry)) at ⌝ }
+{
+    let layout = measure(w);
+    let body = layout.body;
+    let filler = layout.filler;
+    match check_body(&w[body..filler], w[15], message_rule(w[14])) {
+        Checked::Counted(_) => PacketRead::Accepted(packet_in(w, at)),
+        Checked::Faulty(f) => PacketRead::Refused(fault(at + body + f.place)),
+    }
+}
+
+// The packet's record.
+fn packet_in(w: &[u8], at: usize) -> Packet
+    requires { ⌜ Sound (now w) ⌝ }
+    requires { ⌜ at + length (now w) < 2 ^ 64 ⌝ }
+    ensures { λ r. ⌜ r ≡ packetIn (now (w .entry)) at ⌝ }
+{
+    let layout = measure(w);
+    let body = layout.body;
+    let filler = layout.filler;
+    let sum = layout.sum;
+    let length = read32(w, 4);
+    Packet {
+        fields: fields_in(w),
+        length,
+        datalength: read32(w, 8),
+        headsum: read16(w, 22),
+        datasum: read_sum(w, sum, w[14] % 4),
+        header: Part { at, length: 24 },
+        secondary: Part {
+            at: at + 24,
+            length: body - 24,
+        },
+        body: Part {
+            at: at + body,
+            length: filler - body,
+        },
+        filler: Part {
+            at: at + filler,
+            length: sum - filler,
+        },
+        sum: Part {
+            at: at + sum,
+            length: length as usize - sum,
+        },
+    }
+}
+
+// 15, then 16, or both lists filled.
+pub fn list_framed(w: &[u8], at: usize, starts: &mut [u32], lengths: &mut [u32]) -> PacketList
+    requires { ⌜ Sound (now w) ⌝ }
+    requires { ⌜ at + length (now w) < 2 ^ 64 ⌝ }
+    ensures { λ r. ⌜ r ≡ listAnswer (bodyAnswer (bodyChecked (now (w .entry))) (now (w .entry)) at) at (messageCount (now (w .entry))) (min (length (now (starts .entry))) (length (now (lengths .entry)))) ⌝ }
+    ensures { λ r. ⌜ now (starts .exit) ≡ listAfter r (Messages·starts (now (w .entry))) (now (starts .entry)) ⌝ }
+    ensures { λ r. ⌜ now (lengths .exit) ≡ listAfter r (Messages·lengths (now (w .entry))) (now (lengths .entry)) ⌝ }
+{
+    let layout = measure(w);
+    let body = layout.body;
+    let filler = layout.filler;
+    match body::list_messages(
+        &w[body..filler],
+        body,
+        w[15],
+        message_rule(w[14]),
+        starts,
+        lengths,
+    ) {
+        Listed::Count(n) => PacketList::Listed(n),
+        Listed::Unlisted(f) => PacketList::Unlisted(fault(at + body + f.place)),
+        Listed::NoRoom(n) => PacketList::Unlisted(refuse(16, at, n)),
+    }
+}
+
+// 15, then 17, or the message.
+pub fn message_framed(w: &[u8], at: usize, number: usize) -> PacketMessage
+    requires { ⌜ Sound (now w) ⌝ }
+    requires { ⌜ at + length (now w) < 2 ^ 64 ⌝ }
+    ensures { λ r. ⌜ r ≡ messageAnswer (bodyAnswer (bodyChecked (now (w .entry))) (now (w .entry)) at) at (messageCount (now (w .entry))) number (kthMessage (now (w .entry)) number) ⌝ }
+{
+    let layout = measure(w);
+    let body = layout.body;
+    let filler = layout.filler;
+    match body::message_at(&w[body..filler], w[15], message_rule(w[14]), number) {
+        Picked::One(m) => PacketMessage::Given(Message {
+            time: m.time,
+            id: m.id,
+            start: body + m.start,
+            length: m.length,
+        }),
+        Picked::Unread(f) => PacketMessage::Withheld(fault(at + body + f.place)),
+        Picked::Missing => PacketMessage::Withheld(refuse(17, at, 0)),
+    }
+}

@@ -1,0 +1,136 @@
+// One packet: the reader, the lister, a message by its number, and the writer.
+// A window is a buffer, a start and a filled end; nothing outside it has a say.
+ghost use mathlib.Core.Path.{_≡_};
+ghost use lib.ListN.{length};
+ghost use Rattle.packet.specs.Read.{window, readPacket};
+ghost use Rattle.packet.specs.Messages.{listPacket, listAfter, starts as Messages·starts, lengths as Messages·lengths, messagePacket};
+ghost use Rattle.packet.specs.Bytes.{packetBytes};
+ghost use Rattle.packet.specs.Write.{writePacket, outAfter};
+use body::Message;
+use body::Refusal;
+use body::refuse;
+use frame::Fields;
+use frame::rules::length_for;
+
+mod framed;
+mod put;
+mod writing;
+
+use framed::list_framed;
+use framed::message_framed;
+use framed::outer_refusal;
+use framed::read_framed;
+use put::put_packet;
+use writing::fit;
+use writing::writer_refusal;
+
+// A part of a packet: where it stands in the buffer, and how many bytes it has.
+pub struct Part {
+    pub at: usize,
+    pub length: usize,
+}
+
+// An accepted packet: its fields; P and D; the header sum and the data sum (0 if absent) as stored; and its five parts, which
+// stand one behind the other and make up P. An absent part has length 0, at the place where it would stand.
+pub struct Packet {
+    pub fields: Fields,
+    pub length: u32,
+    pub datalength: u32,
+    pub headsum: u16,
+    pub datasum: u32,
+    pub header: Part,
+    pub secondary: Part,
+    pub body: Part,
+    pub filler: Part,
+    pub sum: Part,
+}
+
+pub enum PacketRead {
+    Accepted(Packet),
+    Refused(Refusal),
+}
+
+// The number of messages listed, or the refusal.
+pub enum PacketList {
+    Listed(usize),
+    Unlisted(Refusal),
+}
+
+// A message, its start counted from the packet's first byte, or the refusal.
+pub enum PacketMessage {
+    Given(Message),
+    Withheld(Refusal),
+}
+
+// The length of the packet written, or the refusal.
+pub enum PacketWrite {
+    Written(usize),
+    Unwritten(Refusal),
+}
+
+// Reads the packet at the start of a window. Refusals 1 to 15.
+pub fn read_packet(buf: &[u8], start: usize, end: usize) -> PacketRead
+    ensures { λ r. ⌜ r ≡ readPacket (now (buf .entry)) start end ⌝ }
+{
+    let number = outer_refusal(buf, start, end);
+    if number != 0 {
+        return PacketRead::Refused(refuse(number, start, 0));
+    }
+    read_framed(&buf[start..end], start)
+}
+
+// Lists the start, counted from the packet's first byte, and the length of each message of the packet at the start of a window.
+// The reader's refusals, then 16 where there are more messages than the shorter list holds, with their number as room; a type
+// that isn't opened has none. Entries past the count are untouched, and on a refusal all are.
+pub fn list_messages(
+    buf: &[u8],
+    start: usize,
+    end: usize,
+    starts: &mut [u32],
+    lengths: &mut [u32],
+) -> PacketList
+    ensures { λ r. ⌜ r ≡ listPacket (now (buf .entry)) start end (length (now (starts .entry))) (length (now (lengths .entry))) ⌝ }
+    ensures { λ r. ⌜ now (starts .exit) ≡ listAfter r (Messages·starts (window (now (buf .entry)) start end)) (now (starts .entry)) ⌝ }
+    ensures { λ r. ⌜ now (lengths .exit) ≡ listAfter r (Messages·lengths (window (now (buf .entry)) start end)) (now (lengths .entry)) ⌝ }
+{
+    let number = outer_refusal(buf, start, end);
+    if number != 0 {
+        return PacketList::Unlisted(refuse(number, start, 0));
+    }
+    list_framed(&buf[start..end], start, starts, lengths)
+}
+
+// Gives the message of this number, from 0, of the packet at the start of a window.
+// The reader's refusals, then 17 where there is no such message.
+pub fn message(buf: &[u8], start: usize, end: usize, number: usize) -> PacketMessage
+    ensures { λ r. ⌜ r ≡ messagePacket (now (buf .entry)) start end number ⌝ }
+{
+    let refusal = outer_refusal(buf, start, end);
+    if refusal != 0 {
+        return PacketMessage::Withheld(refuse(refusal, start, 0));
+    }
+    message_framed(&buf[start..end], start, number)
+}
+
+// Writes the packet of these fields and this body at the output's first byte.
+// 17 (RTC of 2^48 or more; a time where bit 7 is clear), then 5 to 9, 12 and 15 by the reader's rules, then 16 with the packet's
+// length as room; the place is 0. The output behind the packet is untouched, and on a refusal all of it is.
+pub fn write_packet(fields: Fields, body: &[u8], out: &mut [u8]) -> PacketWrite
+    ensures { λ r. ⌜ r ≡ writePacket fields (now (body .entry)) (length (now (out .entry))) ⌝ }
+    ensures { λ r. ⌜ now (out .exit) ≡ outAfter r (now (out .entry)) (packetBytes fields (now (body .entry))) ⌝ }
+{
+    let d = body.len() as u64;
+    let number = writer_refusal(fields, d);
+    if number != 0 {
+        return PacketWrite::Unwritten(refuse(number, 0, 0));
+    }
+    let length = length_for(fields.flags, d) as usize;
+    let answer = fit(fields, body, length, out.len());
+    match answer {
+        PacketWrite::Written(_) => {
+            put_packet(out, fields, body, length);
+            answer
+        }
+        PacketWrite::Unwritten(_) => answer,
+    }
+}
