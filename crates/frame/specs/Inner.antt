@@ -1,7 +1,7 @@
 -- What functions inside the house rely on, once 2 to 10 of the table have let a window through. No rule of its own: the laws prove it.
 use mathlib.Core.Path.{_≡_}
 use mathlib.Core.List.{List}
-use Prim.Native.Nat.{ℕ, _+_, _%_, _≤_}
+use Prim.Native.Nat.{ℕ, _%_, _≤_}
 use lib.ListN.{length}
 use Rattle.frame.specs.Header.{packetLength, dataLength, flagsIn, bodyAt, unfilledLength, fillerAt, sumAt}
 use Rattle.frame.specs.declared.Layout.{Layout}

@@ -4,7 +4,7 @@ ghost use Prim.Native.Nat.{_≤_};
 ghost use lib.ListN.{length};
 ghost use Rattle.frame.specs.Header.{channelIn, versionIn, flagsIn, kindIn, packetLength, dataLength, secondaryBit, timeIn, fieldsIn};
 ghost use Rattle.frame.specs.Rules.{headSummed, secondarySummed, secondaryOk, dataSummed, fillerOk};
-ghost use Rattle.frame.specs.Table.{first, headLines, valueLines, wholeLines, secondaryLines, trailerLines, frameLines};
+ghost use Rattle.frame.specs.Table.{first, headLines, valueLines, secondaryLines, trailerLines, frameLines};
 ghost use Rattle.frame.specs.Inner.{Sound, Measured};
 use crate::Fields;
 use crate::Layout;

@@ -18,7 +18,7 @@ use Rattle.body.specs.declared.Checked.the-variants.{Counted, Faulty}
 use Rattle.frame.specs.declared.Fields.{Fields}
 use Rattle.frame.specs.Header.{lengthFor}
 use Rattle.frame.specs.Rules.{secondaryTimeOk, messageRule}
-use Rattle.frame.specs.Table.{line, first, valueLines}
+use Rattle.frame.specs.Table.{line, valueLines}
 use Rattle.frame.proofs.Tables.{holds, stage-first}
 use Rattle.frame.proofs.Frames.{valued-says, lengths-say, limit-cap}
 use Rattle.packet.specs.Write.{inRange, writerLines, writerRefusal, fitted, writePacket, outAfter}

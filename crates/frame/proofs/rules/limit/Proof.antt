@@ -1,17 +1,12 @@
 use Rattle.frame.specs.Rules.{limit as Rules·limit}
 use borrow.Author.Tests.{eq-eqb, ne-eqb}
-use borrow.Author.Needs.{needs}
 use Rattle.frame.proofs.rules.limit.Statement.{statement}
 use Rattle.frame.proofs.rules.limit.Tie as tie
-use Rattle.frame.proofs.rules.limit.Reads as reads
-use Rattle.frame.proofs.rules.limit.Lts as lts
 
--- src/rules.rt:57:1
 returns : tie.Need-returns
 unfolding Rules·limit
 returns c = simp (eq-eqb _ _ (c .if1 .taken))
 
--- src/rules.rt:57:1
 returns-2 : tie.Need-returns-2
 unfolding Rules·limit
 returns-2 c = simp (ne-eqb _ _ (c .if1 .left))
