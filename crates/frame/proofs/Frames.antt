@@ -15,7 +15,7 @@ use Rattle.units.proofs.Parts.{part-front, field-front}
 use Rattle.units.proofs.Sums.{sum-over}
 use Rattle.frame.specs.Header.{byte, channelIn, packetLength, dataLength, versionIn, flagsIn, kindIn, headSumIn, secondaryLength, sumLength, bodyAt, unfilledLength, fillerAt, sumAt, fillerLength, secondaryIn, bodyIn, fillerIn, bodyAndFillerIn, dataSumIn, fieldsIn}
 use Rattle.frame.specs.Rules.{versionOk, typeOk, flagsOk, channelOk, limit, lengthsOk, enough, synced, headSummed, whole, secondarySummed, secondaryOk, dataSummed, fillerOk}
-use Rattle.frame.specs.Table.{Line, first, headLines, valueLines, wholeLines, secondaryLines, trailerLines, frameLines}
+use Rattle.frame.specs.Table.{first, headLines, valueLines, valuesIn, wholeLines, secondaryLines, trailerLines, frameLines}
 use Rattle.frame.specs.Inner.{Sound}
 use Rattle.frame.proofs.Tables.{holds, numbered, stage-none, stage-first, stage-second}
 
@@ -36,10 +36,6 @@ whole-numbered w = tt
 pub secondary-numbered : (w : List ℕ) → T (numbered (secondaryLines w))
 unfolding secondaryLines
 secondary-numbered w = tt
-
--- the lines 5 to 9 of a window's header
-abbrev pub valuesIn : List ℕ → List Line
-valuesIn w = valueLines (channelIn w) (versionIn w) (flagsIn w) (kindIn w) (packetLength w) (dataLength w)
 
 -- each part lets the window through
 pub record Parted (w : List ℕ) : Type 0 where

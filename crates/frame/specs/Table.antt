@@ -33,6 +33,10 @@ valueLines channel version flags kind p d =
     ∷ line 9 (lengthsOk kind flags p d)
     ∷ []
 
+-- of a header
+abbrev pub valuesIn : List ℕ → List Line
+valuesIn w = valueLines (channelIn w) (versionIn w) (flagsIn w) (kindIn w) (packetLength w) (dataLength w)
+
 -- 10: is the packet there
 unfoldable pub wholeLines : List ℕ → List Line
 wholeLines w =
@@ -57,7 +61,7 @@ trailerLines w =
 unfoldable pub frameLines : List ℕ → List Line
 frameLines w =
     headLines w
-    ++ (valueLines (channelIn w) (versionIn w) (flagsIn w) (kindIn w) (packetLength w) (dataLength w)
+    ++ (valuesIn w
     ++ (wholeLines w
     ++ (secondaryLines w
     ++ trailerLines w)))

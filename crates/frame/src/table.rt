@@ -2,9 +2,9 @@
 ghost use mathlib.Core.Path.{_≡_};
 ghost use Prim.Native.Nat.{_≤_};
 ghost use lib.ListN.{length};
-ghost use Rattle.frame.specs.Header.{channelIn, versionIn, flagsIn, kindIn, packetLength, dataLength, secondaryBit, timeIn, fieldsIn};
+ghost use Rattle.frame.specs.Header.{flagsIn, secondaryBit, timeIn, fieldsIn};
 ghost use Rattle.frame.specs.Rules.{headSummed, secondarySummed, secondaryOk, dataSummed, fillerOk};
-ghost use Rattle.frame.specs.Table.{first, headLines, valueLines, secondaryLines, trailerLines, frameLines};
+ghost use Rattle.frame.specs.Table.{first, headLines, valuesIn, secondaryLines, trailerLines, frameLines};
 ghost use Rattle.frame.specs.Inner.{Sound, Measured};
 use crate::Fields;
 use crate::Layout;
@@ -103,7 +103,7 @@ fn header_summed(w: &[u8]) -> bool
 // 5 to 9, or 0, of a header.
 fn value_refusal_in(w: &[u8]) -> u8
     requires { ⌜ 24 ≤ length (now w) ⌝ }
-    ensures { λ r. ⌜ r ≡ first (valueLines (channelIn (now (w .entry))) (versionIn (now (w .entry))) (flagsIn (now (w .entry))) (kindIn (now (w .entry))) (packetLength (now (w .entry))) (dataLength (now (w .entry)))) ⌝ }
+    ensures { λ r. ⌜ r ≡ first (valuesIn (now (w .entry))) ⌝ }
 {
     value_refusal(
         read16(w, 2),

@@ -5,12 +5,11 @@ use Prim.Native.Nat.{ℕ, _+_, _-_, _≤_, _<_}
 use native.Mathlib.Omega.{arith}
 use lib.ListN.{length, take, drop}
 use lib.Seq.{take-take}
-use lib.Dec.{eqb, leb}
-use borrow.Author.Tests.{eqb-true, leb-true, le-leb, not-false}
+use lib.Dec.{eqb}
+use borrow.Author.Tests.{eqb-true, not-false}
 use mathlib.Core.Bool.{not}
 use Rattle.units.specs.Units.{part}
-use Rattle.units.proofs.Choices.{passed, and-true}
-use Rattle.units.proofs.Parts.{length-part}
+use Rattle.units.proofs.Choices.{passed}
 use Rattle.body.specs.Walk.{refused}
 use Rattle.body.specs.declared.Refusal.{Refusal}
 use Rattle.body.specs.declared.Checked.{Checked}
@@ -18,9 +17,9 @@ use Rattle.body.specs.declared.Checked.the-variants.{Counted, Faulty}
 use Rattle.frame.specs.Header.{packetLength, flagsIn, dataLength, unfilledLength}
 use Rattle.frame.specs.Table.{first, frameLines}
 use Rattle.frame.specs.Inner.{Sound}
-use Rattle.frame.proofs.Tables.{holds}
-use Rattle.frame.proofs.Frames.{frame-sound, flags-front, kind-front, packet-length-front, data-length-front, head-sum-front, filler-at-front, sum-at-front, body-front, data-sum-front, fields-front, frame-front, OfFront, own-bytes}
-use Rattle.packet.specs.Read.{inside, window, outerLines, outerRefusal, packetIn, bodyChecked, bodyAnswer, readPacket}
+use Rattle.frame.proofs.Frames.{flags-front, kind-front, packet-length-front, data-length-front, head-sum-front, filler-at-front, sum-at-front, body-front, data-sum-front, fields-front, frame-front, OfFront, own-bytes}
+use Rattle.packet.proofs.Answers.{outer-inside, Open, outer-open}
+use Rattle.packet.specs.Read.{window, outerRefusal, packetIn, bodyChecked, bodyAnswer, readPacket}
 use Rattle.packet.specs.Messages.{messageCount, kthMessage, listPacket, listAfter, starts, lengths, messagePacket}
 use Rattle.packet.specs.declared.Packet.{Packet}
 use Rattle.packet.specs.declared.PacketRead.the-variants.{Accepted, Refused}
@@ -32,9 +31,7 @@ refused-accepted r p e = let z : _≡_ {A = ℕ} 0 1 = cc in omega arith
 
 -- a window in its buffer, whose frame and body keep the rules, and the packet there
 pub record AcceptedAt (buf : List ℕ) (s e : ℕ) (p : Packet) : Type 0 where
-  pub ordered : s ≤ e
-  pub filled : e ≤ length buf
-  pub framed : first (frameLines (window buf s e)) ≡ 0
+  pub opens : Open buf s e
   pub count : ℕ
   pub body : bodyChecked (window buf s e) ≡ Counted count
   pub packet : p ≡ packetIn (window buf s e) s
@@ -45,41 +42,32 @@ from-body (Counted n) w at p e = (n, refl, cc)
 from-body (Faulty f) w at p e = absurd (refused-accepted _ p e)
 
 pub accepted-at : (buf : List ℕ) (s e : ℕ) (p : Packet) → readPacket buf s e ≡ Accepted p → AcceptedAt buf s e p
-unfolding readPacket outerRefusal outerLines
+unfolding readPacket
 accepted-at buf s e p h =
     let w = window buf s e in
-    let n = first (outerLines buf s e) in
+    let n = outerRefusal buf s e in
     let k = passed (not (eqb n 0)) (Refused (refused n s 0)) (bodyAnswer (bodyChecked w) w s) (Accepted p) (refused-accepted _ p) h in
-    let l = holds 1 (inside buf s e) (frameLines w) tt (eqb-true n 0 (not-false (eqb n 0) (k .0))) in
-    let i = and-true (leb s e) (leb e (length buf)) (l .0) in
     let b = from-body (bodyChecked w) w s p (k .1) in
     record {
-      ordered = leb-true s e (i .0);
-      filled = leb-true e (length buf) (i .1);
-      framed = l .1;
+      opens = outer-open buf s e (eqb-true n 0 (not-false (eqb n 0) (k .0)));
       count = b .0;
       body = b .1;
       packet = b .2;
     }
 
 pub at-accepted : (buf : List ℕ) (s e : ℕ) (p : Packet) → AcceptedAt buf s e p → readPacket buf s e ≡ Accepted p
-unfolding readPacket outerRefusal outerLines first bodyAnswer
-at-accepted buf s e p a = rw (le-leb s e (a .ordered), le-leb e (length buf) (a .filled), a .framed, a .body, a .packet)
+unfolding readPacket bodyAnswer
+at-accepted buf s e p a =
+    let o = a .opens in
+    let z : outerRefusal buf s e ≡ 0 = sym (outer-inside buf s e 0 (o .ordered) (o .within) (sym (o .framed))) in
+    rw (z, a .body, a .packet)
 
 length-of : (w : List ℕ) (at : ℕ) → packetIn w at .length ≡ packetLength w
 unfolding packetIn
 length-of w at = refl
 
--- what its window then says of the lengths
-module _ (buf : List ℕ) (s e : ℕ) (p : Packet) (at : AcceptedAt buf s e p) where
-  accepted-sound : Sound (window buf s e)
-  accepted-sound = frame-sound (window buf s e) (at .framed)
-
-  accepted-length : p .length ≡ packetLength (window buf s e)
-  accepted-length = ap (λ (q : Packet). q .length) (at .packet) ∙ length-of (window buf s e) s
-
-  accepted-window : length (window buf s e) ≡ e - s
-  accepted-window = length-part buf s (e - s) (omega (arith, at .ordered, at .filled))
+accepted-length : (buf : List ℕ) (s e : ℕ) (p : Packet) → AcceptedAt buf s e p → p .length ≡ packetLength (window buf s e)
+accepted-length buf s e p at = ap (λ (q : Packet). q .length) (at .packet) ∙ length-of (window buf s e) s
 
 -- an accepted packet is longer than its header, and all of it stands in its window
 pub record Fits (s e n : ℕ) : Type 0 where
@@ -90,12 +78,11 @@ pub record Fits (s e n : ℕ) : Type 0 where
 pub fits : (buf : List ℕ) (s e : ℕ) (p : Packet) → readPacket buf s e ≡ Accepted p → Fits s e (p .length)
 fits buf s e p h =
     let a = accepted-at buf s e p h in
-    let w = accepted-sound buf s e p a in
+    let w = a .opens .sound in
     let l = accepted-length buf s e p a in
-    let n = accepted-window buf s e p a in
     record {
       some = omega (arith, l, w .parts, w .some);
-      within = omega (arith, l, n, w .there, w .parts, a .ordered);
+      within = omega (arith, l, w .there, a .opens .reach);
       small = omega (arith, l, w .capped);
     }
 
@@ -141,16 +128,14 @@ module _ (a b : List ℕ) (s e f : ℕ) (p : Packet) (h : readPacket a s e ≡ A
       let l = accepted-length a s e p at in
       let x : take (p .length) u ≡ part b s (p .length) = take-take (p .length) (f - s) (drop s b) (omega arith) in
       let y : take (p .length) w ≡ part a s (p .length) = take-take (p .length) (e - s) (drop s a) (omega (arith, k .within)) in
-      own-bytes said front w u (accepted-sound a s e p at) (rw l at (x ∙ sym same ∙ sym y))
+      own-bytes said front w u (at .opens .sound) (rw l at (x ∙ sym same ∙ sym y))
 
   pub own-read : readPacket b s f ≡ Accepted p
   own-read =
       let at = accepted-at a s e p h in
       at-accepted b s f p
       (record {
-        ordered = omega arith;
-        filled = in-b;
-        framed = ap first (own frameLines frame-front) ∙ at .framed;
+        opens = outer-open b s f (sym (outer-inside b s f 0 (omega arith) in-b (sym (ap first (own frameLines frame-front) ∙ at .opens .framed))));
         count = at .count;
         body = own bodyChecked checked-front ∙ at .body;
         packet = at .packet ∙ sym (own (λ w. packetIn w s) (λ v t header there parts. packet-front v t header there parts s));
@@ -199,4 +184,4 @@ sound-together w at s =
 pub together : (buf : List ℕ) (s e : ℕ) (p : Packet) → readPacket buf s e ≡ Accepted p → Together s p
 together buf s e p h =
     let a = accepted-at buf s e p h in
-    rw (a .packet) (sound-together (window buf s e) s (accepted-sound buf s e p a))
+    rw (a .packet) (sound-together (window buf s e) s (a .opens .sound))

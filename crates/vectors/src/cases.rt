@@ -3,16 +3,16 @@ use crate::show::show_body;
 use crate::show::show_draft;
 use crate::show::show_lists;
 use crate::show::show_step;
-use crate::show::show_sum;
 use body::time::rule_of;
 use builder::Draft;
 use builder::Step;
+use report::echo;
+use report::show_sum;
 use units::data_sum;
 use units::header_sum;
 use units::secondary_sum;
 use words::command;
 use words::decimal_at;
-use words::is_case;
 use words::last_bytes;
 use words::low_half;
 use words::number_at;
@@ -26,7 +26,7 @@ pub struct Bench {
 
 // A line that is no case; the state stays.
 fn unknown(draft: Draft) -> Draft {
-    io::write_all(1, b"  ?\n");
+    report::unknown();
     draft
 }
 
@@ -254,9 +254,7 @@ fn run_case(line: &[u8], room: &mut [u8], bench: Bench) -> Bench {
 
 // Writes a line as it is, and its outcome where it is a case.
 pub fn run_line(line: &[u8], room: &mut [u8], bench: Bench) -> Bench {
-    io::write_all(1, line);
-    io::write_all(1, b"\n");
-    if is_case(line) {
+    if echo(line) {
         return run_case(line, room, bench);
     }
     bench

@@ -2,55 +2,17 @@
 ghost use Prim.Native.Nat.{_≤_};
 use body::Checked;
 use body::Listed;
-use body::Message;
 use body::Picked;
-use body::Refusal;
 use body::TimeRule;
 use body::check_body;
 use body::list_messages;
 use body::message_at;
 use builder::Draft;
 use builder::Step;
-use words::find;
-
-// Writes a text with the next number in the place of each `#`.
-fn show(text: &[u8], numbers: &[u64]) {
-    let mut at: usize = 0;
-    let mut k: usize = 0;
-    while at < text.len() {
-        let end = find(text, at, b'#');
-        io::write_all(1, &text[at..end]);
-        if end < text.len() {
-            if k < numbers.len() {
-                io::print_decimal(1, numbers[k]);
-                k += 1;
-            }
-        }
-        at = end + 1;
-    }
-}
-
-// A sum; true, as the line is a case.
-pub fn show_sum(sum: u64) -> bool {
-    show(b"  sum=#\n", &[sum]);
-    true
-}
-
-// The number, the place and the room of a refusal.
-fn show_refusal(f: Refusal) {
-    show(
-        b"  # at # room #\n",
-        &[f.number as u64, f.place as u64, f.room as u64],
-    );
-}
-
-// A message under its number.
-fn show_found(number: u64, m: Message) {
-    show(
-        b"  #: time=# id=# start=# length=#\n",
-        &[number, m.time, m.id as u64, m.start as u64, m.length as u64],
-    );
-}
+use report::show;
+use report::show_entries;
+use report::show_found;
+use report::show_refusal;
 
 // What the library says of the message of this number.
 fn show_message(body: &[u8], kind: u8, rule: TimeRule, number: usize) {
@@ -70,19 +32,6 @@ fn show_messages(body: &[u8], kind: u8, rule: TimeRule, n: usize) {
         }
     }
     show_message(body, kind, rule, n);
-}
-
-// One entry of both lists.
-fn show_entry(start: u32, length: u32) {
-    show(b" #:#", &[start as u64, length as u64]);
-}
-
-// All entries of both lists.
-fn show_entries(starts: &[u32; 5], lengths: &[u32; 5]) {
-    for i in 0..5 {
-        show_entry(starts[i], lengths[i]);
-    }
-    io::write_all(1, b"\n");
 }
 
 // What the library says of the lists.

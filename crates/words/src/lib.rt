@@ -199,7 +199,7 @@ fn hex_byte(word: &[u8]) -> Number
 }
 
 // The lowest byte of a number.
-fn low_byte(v: u64) -> u8 {
+pub fn low_byte(v: u64) -> u8 {
     (v % 256) as u8
 }
 

@@ -1,7 +1,6 @@
 use native.Mathlib.Omega.{arith}
-use Rattle.packet.proofs.Answers.{message-refused, message-on}
-use Rattle.packet.proofs.Answers.{opened}
 use borrow.Author.Needs.{needs}
+use Rattle.packet.proofs.Answers.{message-refused, message-on, opened}
 use Rattle.packet.proofs.message.Statement.{statement}
 use Rattle.packet.proofs.message.Tie as tie
 
@@ -18,7 +17,11 @@ part-message-framed-end : tie.Need-part-message-framed-end
 part-message-framed-end c = (opened _ _ _ _ (c .before .outer-refusal .ensures) (c .if1 .left)) .within
 
 message-framed-requires : tie.Need-message-framed-requires
-message-framed-requires c κs = let o = opened _ _ _ _ (c .before .before .outer-refusal .ensures) (c .before .if1 .left) in (o .sound, omega (arith, o .reach, c .before .before .before .before .fits))
+message-framed-requires c κs =
+    let fits = c .before .before .before .before .fits in
+    let outer-refusal = c .before .before .outer-refusal in
+    let o = opened _ _ _ _ (outer-refusal .ensures) (c .before .if1 .left) in
+    (o .sound, omega (arith, o .reach, fits))
 
 returns-2 : tie.Need-returns-2
 returns-2 c = message-on _ _ _ _ (c .before .before .before .outer-refusal .ensures) _ _ (c .before .before .if1 .left) (c .message-framed .ensures)

@@ -1,7 +1,6 @@
 use native.Mathlib.Omega.{arith}
-use Rattle.packet.proofs.Answers.{read-refused, read-on}
-use Rattle.packet.proofs.Answers.{opened}
 use borrow.Author.Needs.{needs}
+use Rattle.packet.proofs.Answers.{read-refused, read-on, opened}
 use Rattle.packet.proofs.read_packet.Statement.{statement}
 use Rattle.packet.proofs.read_packet.Tie as tie
 
@@ -18,7 +17,11 @@ part-read-framed-end : tie.Need-part-read-framed-end
 part-read-framed-end c = (opened _ _ _ _ (c .before .outer-refusal .ensures) (c .if1 .left)) .within
 
 read-framed-requires : tie.Need-read-framed-requires
-read-framed-requires c κs = let o = opened _ _ _ _ (c .before .before .outer-refusal .ensures) (c .before .if1 .left) in (o .sound, omega (arith, o .reach, c .before .before .before .before .fits))
+read-framed-requires c κs =
+    let fits = c .before .before .before .before .fits in
+    let outer-refusal = c .before .before .outer-refusal in
+    let o = opened _ _ _ _ (outer-refusal .ensures) (c .before .if1 .left) in
+    (o .sound, omega (arith, o .reach, fits))
 
 returns-2 : tie.Need-returns-2
 returns-2 c = read-on _ _ _ _ (c .before .before .before .outer-refusal .ensures) _ (c .before .before .if1 .left) (c .read-framed .ensures)

@@ -2,11 +2,11 @@ use mathlib.Core.Path.{_≡_, sym, ap, _∙_}
 use mathlib.Core.List.{List}
 use Prim.Native.Nat.{ℕ}
 use native.Mathlib.Omega.{arith}
+use borrow.Author.Needs.{needs}
 use Rattle.units.specs.Units.{splice, bytesOf}
 use Rattle.units.proofs.Numbers.{bytesOf-mod}
 use Rattle.units.proofs.Writes.{splice-none}
 use Rattle.frame.proofs.Widths.{room, put-as, put-one}
-use borrow.Author.Needs.{needs}
 use Rattle.frame.proofs.head.put_sum.Statement.{statement}
 use Rattle.frame.proofs.head.put_sum.Tie as tie
 

@@ -1,8 +1,8 @@
 use mathlib.Core.Path.{_≡_, sym}
 use native.Mathlib.Omega.{arith}
+use borrow.Author.Needs.{needs}
 use Rattle.units.proofs.Parts.{field-one, field-zero}
 use Rattle.frame.proofs.Widths.{room, read-as}
-use borrow.Author.Needs.{needs}
 use Rattle.frame.proofs.head.read_sum.Statement.{statement}
 use Rattle.frame.proofs.head.read_sum.Tie as tie
 

@@ -1,5 +1,5 @@
-use Rattle.frame.specs.Rules.{limit as Rules·limit}
 use borrow.Author.Tests.{eq-eqb, ne-eqb}
+use Rattle.frame.specs.Rules.{limit as Rules·limit}
 use Rattle.frame.proofs.rules.limit.Statement.{statement}
 use Rattle.frame.proofs.rules.limit.Tie as tie
 

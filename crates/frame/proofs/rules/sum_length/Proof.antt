@@ -1,7 +1,7 @@
 use mathlib.Core.Path.{sym}
 use native.Mathlib.Omega.{arith}
-use Rattle.frame.proofs.Widths.{width-is, width-three}
 use borrow.Author.Needs.{needs}
+use Rattle.frame.proofs.Widths.{width-is, width-three}
 use Rattle.frame.proofs.rules.sum_length.Statement.{statement}
 use Rattle.frame.proofs.rules.sum_length.Tie as tie
 

@@ -1,5 +1,5 @@
-use Rattle.frame.proofs.Stages.{filler-is}
 use borrow.Author.Needs.{needs}
+use Rattle.frame.proofs.Stages.{filler-is}
 use Rattle.frame.proofs.table.filler_ok.Statement.{statement}
 use Rattle.frame.proofs.table.filler_ok.Tie as tie
 

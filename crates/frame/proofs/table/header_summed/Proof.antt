@@ -1,5 +1,5 @@
-use Rattle.units.specs.Units.{summed}
 use borrow.Author.Needs.{needs}
+use Rattle.units.specs.Units.{summed}
 use Rattle.frame.proofs.table.header_summed.Statement.{statement}
 use Rattle.frame.proofs.table.header_summed.Tie as tie
 

@@ -1,6 +1,6 @@
+use borrow.Author.Needs.{needs}
 use Rattle.frame.specs.Table.{trailerLines}
 use Rattle.frame.proofs.Tables.{stands, passes, none, broken, kept}
-use borrow.Author.Needs.{needs}
 use Rattle.frame.proofs.table.trailer_refusal.Statement.{statement}
 use Rattle.frame.proofs.table.trailer_refusal.Tie as tie
 
@@ -10,11 +10,17 @@ returns c = stands 13 _ (broken (c .before .data-summed .ensures) (c .if1 .taken
 
 returns-2 : tie.Need-returns-2
 unfolding trailerLines
-returns-2 c = passes 13 14 _ (kept (c .before .before .before .data-summed .ensures) (c .before .before .if1 .left)) (stands 14 _ (broken (c .before .filler-ok .ensures) (c .if2 .taken)))
+returns-2 c =
+    let data-summed = c .before .before .before .data-summed in
+    let if1 = c .before .before .if1 in
+    passes 13 14 _ (kept (data-summed .ensures) (if1 .left)) (stands 14 _ (broken (c .before .filler-ok .ensures) (c .if2 .taken)))
 
 returns-3 : tie.Need-returns-3
 unfolding trailerLines
-returns-3 c = passes 13 0 _ (kept (c .before .before .before .data-summed .ensures) (c .before .before .if1 .left)) (passes 14 0 _ (kept (c .before .filler-ok .ensures) (c .if2 .left)) none)
+returns-3 c =
+    let data-summed = c .before .before .before .data-summed in
+    let if1 = c .before .before .if1 in
+    passes 13 0 _ (kept (data-summed .ensures) (if1 .left)) (passes 14 0 _ (kept (c .before .filler-ok .ensures) (c .if2 .left)) none)
 
 pub trailer-refusal-spec : {M : Type 1} → statement M
 trailer-refusal-spec =

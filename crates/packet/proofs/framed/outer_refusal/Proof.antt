@@ -1,5 +1,5 @@
-use Rattle.packet.proofs.Answers.{outer-disordered, outer-past, outer-inside}
 use borrow.Author.Needs.{needs}
+use Rattle.packet.proofs.Answers.{outer-disordered, outer-past, outer-inside}
 use Rattle.packet.proofs.framed.outer_refusal.Statement.{statement}
 use Rattle.packet.proofs.framed.outer_refusal.Tie as tie
 

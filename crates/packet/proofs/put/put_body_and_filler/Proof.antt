@@ -1,5 +1,5 @@
-use Rattle.packet.proofs.Puts.{filled-put}
 use borrow.Author.Needs.{needs}
+use Rattle.packet.proofs.Puts.{filled-put}
 use Rattle.packet.proofs.put.put_body_and_filler.Statement.{statement}
 use Rattle.packet.proofs.put.put_body_and_filler.Tie as tie
 

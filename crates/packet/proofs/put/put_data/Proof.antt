@@ -1,5 +1,5 @@
-use Rattle.packet.proofs.Puts.{data-put}
 use borrow.Author.Needs.{needs}
+use Rattle.packet.proofs.Puts.{data-put}
 use Rattle.packet.proofs.put.put_data.Statement.{statement}
 use Rattle.packet.proofs.put.put_data.Tie as tie
 

@@ -1,5 +1,5 @@
-use Rattle.packet.proofs.Puts.{head-put}
 use borrow.Author.Needs.{needs}
+use Rattle.packet.proofs.Puts.{head-put}
 use Rattle.packet.proofs.put.put_header.Statement.{statement}
 use Rattle.packet.proofs.put.put_header.Tie as tie
 

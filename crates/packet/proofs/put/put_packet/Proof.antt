@@ -1,5 +1,5 @@
-use Rattle.packet.proofs.Puts.{packet-put}
 use borrow.Author.Needs.{needs}
+use Rattle.packet.proofs.Puts.{packet-put}
 use Rattle.packet.proofs.put.put_packet.Statement.{statement}
 use Rattle.packet.proofs.put.put_packet.Tie as tie
 

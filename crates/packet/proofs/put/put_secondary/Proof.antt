@@ -1,5 +1,5 @@
-use Rattle.packet.proofs.Puts.{secondary-put, secondary-none}
 use borrow.Author.Needs.{needs}
+use Rattle.packet.proofs.Puts.{secondary-put, secondary-none}
 use Rattle.packet.proofs.put.put_secondary.Statement.{statement}
 use Rattle.packet.proofs.put.put_secondary.Tie as tie
 

@@ -1,5 +1,5 @@
-use Rattle.packet.proofs.Puts.{words-put}
 use borrow.Author.Needs.{needs}
+use Rattle.packet.proofs.Puts.{words-put}
 use Rattle.packet.proofs.put.put_words.Statement.{statement}
 use Rattle.packet.proofs.put.put_words.Tie as tie
 

@@ -1,16 +1,32 @@
-use Rattle.packet.proofs.Writes.{fit-short, fit-room, fit-faulty}
 use borrow.Author.Needs.{needs}
+use Rattle.packet.proofs.Writes.{fit-short, fit-room, fit-faulty}
 use Rattle.packet.proofs.writing.fit.Statement.{statement}
 use Rattle.packet.proofs.writing.fit.Tie as tie
 
 returns : tie.Need-returns
-returns c = fit-short (c .before .before .before .before .before .before .before .args .fields) (c .before .before .before .before .before .before .before .args .body .now) _ _ _ _ (c .before .before .before .before .before .message-rule .ensures) (c .before .before .before .before .check-body .ensures) _ _ (c .before .before .enum-told .given .1) (c .before .if1 .taken) (c .refuse .ensures)
+returns c =
+    let given = c .before .before .before .before .before .before .before .args in
+    let message-rule = c .before .before .before .before .before .message-rule in
+    let check-body = c .before .before .before .before .check-body in
+    let enum-told = c .before .before .enum-told in
+    fit-short (given .fields) (given .body .now) _ _ _ _ (message-rule .ensures) (check-body .ensures) _ _ (enum-told .given .1)
+    (c .before .if1 .taken) (c .refuse .ensures)
 
 returns-2 : tie.Need-returns-2
-returns-2 c = fit-room (c .before .before .before .before .before .before .args .fields) (c .before .before .before .before .before .before .args .body .now) _ _ _ _ (c .before .before .before .before .message-rule .ensures) (c .before .before .before .check-body .ensures) _ (c .before .enum-told .given .1) (c .if1 .left)
+returns-2 c =
+    let given = c .before .before .before .before .before .before .args in
+    let message-rule = c .before .before .before .before .message-rule in
+    let check-body = c .before .before .before .check-body in
+    fit-room (given .fields) (given .body .now) _ _ _ _ (message-rule .ensures) (check-body .ensures) _ (c .before .enum-told .given .1)
+    (c .if1 .left)
 
 returns-3 : tie.Need-returns-3
-returns-3 c = fit-faulty (c .before .before .before .before .before .before .args .fields) (c .before .before .before .before .before .before .args .body .now) _ _ _ _ (c .before .before .before .before .message-rule .ensures) (c .before .before .before .check-body .ensures) _ _ (c .before .enum-told2 .given .1) (c .fault .ensures)
+returns-3 c =
+    let given = c .before .before .before .before .before .before .args in
+    let message-rule = c .before .before .before .before .message-rule in
+    let check-body = c .before .before .before .check-body in
+    fit-faulty (given .fields) (given .body .now) _ _ _ _ (message-rule .ensures) (check-body .ensures) _ _ (c .before .enum-told2 .given .1)
+    (c .fault .ensures)
 
 pub fit-spec : {M : Type 1} → statement M
 fit-spec =

@@ -1,7 +1,7 @@
 use Prim.Native.Nat.{_-_, _≤_}
 use borrow.Author.Needs.{needs}
-use Rattle.vectors.proofs.show.show_entries.Statement.{statement}
-use Rattle.vectors.proofs.show.show_entries.Tie as tie
+use Rattle.report.proofs.show_entries.Statement.{statement}
+use Rattle.report.proofs.show_entries.Tie as tie
 
 abbrev Inv-loop : tie.InvT-loop
 Inv-loop starts lengths i₀ t4 i = i ≤ 5

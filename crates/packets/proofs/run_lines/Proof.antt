@@ -1,17 +1,18 @@
 use Prim.Native.Nat.{_+_, _-_, _≤_}
-use borrow.Author.Needs.{needs}
+use mathlib.Core.Path.{_≡_}
 use lib.ListN.{length}
-use Rattle.vectors.proofs.show.show.Statement.{statement}
-use Rattle.vectors.proofs.show.show.Tie as tie
+use borrow.Author.Needs.{needs}
+use Rattle.packets.proofs.run_lines.Statement.{statement}
+use Rattle.packets.proofs.run_lines.Tie as tie
 
 abbrev Inv-loop : tie.InvT-loop
-Inv-loop text numbers at₀ k₀ at k = at ≤ length text + 1
+Inv-loop text room₀ size₀ at₀ room size at = (at ≤ length text + 1) × (length room ≡ length room₀)
 
 abbrev μ-loop : tie.MeasureT-loop
-μ-loop text numbers at₀ k₀ at k = length text + 1 - at
+μ-loop text room₀ size₀ at₀ room size at = length text + 1 - at
 
-pub show-spec : {M : Type 1} → statement M
-show-spec =
+pub run-lines-spec : {M : Type 1} → statement M
+run-lines-spec =
     tie.close
     (tie.spec
     Inv-loop
@@ -19,9 +20,6 @@ show-spec =
     (λ c. search needs)
     (λ c κs. search needs)
     (λ c. search needs)
-    (λ c. search needs)
-    (λ c. search needs)
-    (λ c κs. search needs)
     (λ c. search needs)
     (λ c. search needs)
     (λ c κs. search needs)

@@ -1,0 +1,3 @@
+// What the calls on one packet say, as lines.
+pub mod show;
+pub mod sweep;
