@@ -7,13 +7,13 @@ use native.Mathlib.Omega.{arith}
 use lib.ListN.{length, take, drop, length-append, List·getD-append, take-append-drop}
 use lib.Seq.{length-take-le}
 use lib.Dec.{T, eqb, leb}
-use borrow.Author.Tests.{eqb-true, leb-true, le-leb}
+use borrow.Author.Tests.{eqb-true, eq-eqb, leb-true, le-leb}
 use Rattle.units.specs.Units.{sumUnits, summed}
 use Rattle.units.specs.Choice.{pick}
 use Rattle.units.proofs.Choices.{and-true}
 use Rattle.units.proofs.Parts.{part-front, field-front}
 use Rattle.units.proofs.Sums.{sum-over}
-use Rattle.frame.specs.Header.{byte, channelIn, packetLength, dataLength, versionIn, flagsIn, kindIn, headSumIn, secondaryLength, sumLength, bodyAt, unfilledLength, fillerAt, sumAt, fillerLength, secondaryIn, bodyIn, fillerIn, bodyAndFillerIn, dataSumIn, fieldsIn}
+use Rattle.frame.specs.Header.{byte, channelIn, packetLength, dataLength, versionIn, flagsIn, kindIn, headSumIn, secondaryLength, sumLength, bodyAt, unfilledLength, lengthFor, fillerAt, sumAt, fillerLength, secondaryIn, bodyIn, fillerIn, bodyAndFillerIn, dataSumIn, fieldsIn}
 use Rattle.frame.specs.Rules.{versionOk, typeOk, flagsOk, channelOk, limit, lengthsOk, enough, synced, headSummed, whole, secondarySummed, secondaryOk, dataSummed, fillerOk}
 use Rattle.frame.specs.Table.{first, headLines, valueLines, valuesIn, wholeLines, secondaryLines, trailerLines, frameLines}
 use Rattle.frame.specs.Inner.{Sound}
@@ -180,6 +180,21 @@ lengths-say kind flags p d e =
       parts = leb-true parts p (o₄ .1);
       few = leb-true p (parts + 3) (o₅ .1);
     }
+
+-- the rule that the reader tests leaves one P for each D, the writer's
+pub length-is : (kind flags p d : ℕ) → lengthsOk kind flags p d ≡ true → p ≡ lengthFor flags d
+length-is kind flags p d e = let l = lengths-say kind flags p d e in omega (arith, l .fours, l .parts, l .few)
+
+pub length-kept : (kind flags d : ℕ) → 1 ≤ d → lengthFor flags d ≤ limit kind → lengthsOk kind flags (lengthFor flags d) d ≡ true
+length-kept kind flags d some within =
+    let p = lengthFor flags d in
+    rw (
+      eq-eqb (p % 4) 0 (omega arith),
+      le-leb p (limit kind) within,
+      le-leb 1 d some,
+      le-leb (unfilledLength flags d) p (omega arith),
+      le-leb p (unfilledLength flags d + 3) (omega arith),
+    )
 
 pub sound : (w : List ℕ) → first (headLines w) ≡ 0 → first (valuesIn w) ≡ 0 → first (wholeLines w) ≡ 0 → Sound w
 unfolding wholeLines
