@@ -1,18 +1,18 @@
 -- What a window whose frame is let through says, rule by rule, and that what stands behind its packet has no say. Assumes nothing.
 use mathlib.Core.Path.{_≡_, sym, ap, _∙_}
-use mathlib.Core.List.{List, _++_, append-assoc}
+use mathlib.Core.List.{List, _++_}
 use mathlib.Core.Bool.{Bool, true, false, _&&_}
-use Prim.Native.Nat.{ℕ, _+_, _*_, _-_, _%_, _≤_, _<_}
+use Prim.Native.Nat.{ℕ, _+_, _-_, _%_, _≤_, _<_}
 use native.Mathlib.Omega.{arith}
 use lib.ListN.{length, take, drop, length-append, List·getD-append, take-append-drop}
 use lib.Seq.{length-take-le}
 use lib.Dec.{T, eqb, leb}
 use borrow.Author.Tests.{eqb-true, eq-eqb, leb-true, le-leb}
-use Rattle.units.specs.Units.{sumUnits, summed}
+use Rattle.units.specs.Units.{summed}
 use Rattle.units.specs.Choice.{pick}
 use Rattle.units.proofs.Choices.{and-true}
 use Rattle.units.proofs.Parts.{part-front, field-front}
-use Rattle.units.proofs.Sums.{sum-over}
+use Rattle.units.proofs.Sums.{sum-prefix}
 use Rattle.frame.specs.Header.{byte, channelIn, packetLength, dataLength, versionIn, flagsIn, kindIn, headSumIn, secondaryLength, sumLength, bodyAt, unfilledLength, lengthFor, fillerAt, sumAt, fillerLength, secondaryIn, bodyIn, fillerIn, bodyAndFillerIn, dataSumIn, fieldsIn}
 use Rattle.frame.specs.Rules.{versionOk, typeOk, flagsOk, channelOk, limit, lengthsOk, enough, synced, headSummed, whole, secondarySummed, secondaryOk, dataSummed, fillerOk}
 use Rattle.frame.specs.Table.{first, headLines, valueLines, valuesIn, wholeLines, secondaryLines, trailerLines, frameLines}
@@ -214,18 +214,6 @@ frame-sound w e = let p = parted w e in sound w (p .head) (p .values) (p .there)
 
 -- ---- what stands behind a packet
 
--- bytes behind the units have no say
-sum-front : (w k : ℕ) (v t : List ℕ) → w * k ≤ length v → sumUnits w k (v ++ t) ≡ sumUnits w k v
-sum-front w k v t h =
-    let n = w * k in
-    let l : length (take n v) ≡ n = length-take-le n v h in
-    let e : take n v ++ drop n v ≡ v = take-append-drop n v in
-    ap (λ (x : List ℕ). sumUnits w k (x ++ t)) (sym e)
-    ∙ ap (sumUnits w k) (append-assoc (take n v) (drop n v) t)
-    ∙ sum-over w k (take n v) (drop n v ++ t) l
-    ∙ sym (sum-over w k (take n v) (drop n v) l)
-    ∙ ap (sumUnits w k) e
-
 -- v holds a header and all of the packet that it declares; t is what stands behind v
 module _ (v t : List ℕ) (header : 24 ≤ length v) (there : packetLength v ≤ length v) (parts : unfilledLength (flagsIn v) (dataLength v) ≤ packetLength v) where
   byte-front : (i : ℕ) → i < length v → byte (v ++ t) i ≡ byte v i
@@ -284,7 +272,7 @@ module _ (v t : List ℕ) (header : 24 ≤ length v) (there : packetLength v ≤
   unfolding headLines summed
   head-front =
       let long : enough (v ++ t) ≡ enough v = le-leb 24 (length (v ++ t)) (omega (arith, length-append v t)) ∙ sym (le-leb 24 (length v) header) in
-      rw (long, byte-front 0 (omega arith), byte-front 1 (omega arith), sum-front 2 11 v t (omega arith), field-front v t 22 2 (omega arith))
+      rw (long, byte-front 0 (omega arith), byte-front 1 (omega arith), sum-prefix 2 11 v t (omega arith), field-front v t 22 2 (omega arith))
 
   values-front : valuesIn (v ++ t) ≡ valuesIn v
   values-front =

@@ -8,8 +8,8 @@ use native.Mathlib.Omega.{arith}
 use native.Mathlib.Decide.{decLt}
 use native.Mathlib.Nat.{zero-add, add-zero, add-left-comm, mul-zero, mul-suc, zero-mod, mod-lt, mod-eq-of-lt, mod-add-mod, add-mul-mod-self-left, div-add-mod, suc-add, le-dest, mul-le-mul-left}
 use native.Mathlib.Numerals.{add-one}
-use lib.ListN.{length, drop, length-append, length-drop}
-use lib.Seq.{drop-drop, take-append-le, drop-append-le, drop-append-add, take-at, drop-at}
+use lib.ListN.{length, take, drop, length-append, length-drop, take-append-drop}
+use lib.Seq.{length-take-le, drop-drop, take-append-le, drop-append-le, drop-append-add, take-at, drop-at}
 use borrow.Author.Tests.{eqb-true, eq-eqb, ne-eqb}
 use Rattle.units.specs.Units.{Bytes, num, field, sumUnits, checksum, summed, Changed}
 use Rattle.units.proofs.Numbers.{pow-pos, bytes-left, bytes-right, num-inj, num-lt}
@@ -72,6 +72,18 @@ unfolding sumUnits
 sum-over w k xs ys h =
     let e : sumUnits w (k + 0) (xs ++ ys) ≡ sumUnits w k xs + 0 = sum-append w k 0 xs ys h in
     simp add-zero at e
+
+-- nor have those behind a list that holds all the units
+pub sum-prefix : (w k : ℕ) (xs ys : List ℕ) → w * k ≤ length xs → sumUnits w k (xs ++ ys) ≡ sumUnits w k xs
+sum-prefix w k xs ys h =
+    let n = w * k in
+    let l : length (take n xs) ≡ n = length-take-le n xs h in
+    let e : take n xs ++ drop n xs ≡ xs = take-append-drop n xs in
+    ap (λ (l : List ℕ). sumUnits w k (l ++ ys)) (sym e)
+    ∙ ap (sumUnits w k) (append-assoc (take n xs) (drop n xs) ys)
+    ∙ sum-over w k (take n xs) (drop n xs ++ ys) l
+    ∙ sym (sum-over w k (take n xs) (drop n xs) l)
+    ∙ ap (sumUnits w k) e
 
 -- one unit and what stands around it
 pub sum-around : (w j k : ℕ) (pre u post : List ℕ) → length pre ≡ w * j → length u ≡ w
