@@ -1,5 +1,6 @@
 pub mod Answers
 pub mod Window
 pub mod Own
+pub mod Told
 pub mod Puts
 pub mod Writes

@@ -19,8 +19,9 @@ use Rattle.frame.specs.Table.{first, frameLines}
 use Rattle.frame.specs.Inner.{Sound}
 use Rattle.frame.proofs.Frames.{flags-front, kind-front, packet-length-front, data-length-front, head-sum-front, filler-at-front, sum-at-front, body-front, data-sum-front, fields-front, frame-front, OfFront, own-bytes}
 use Rattle.packet.proofs.Answers.{outer-inside, Open, outer-open}
+use Rattle.packet.proofs.Window.{entries, entries-told}
 use Rattle.packet.specs.Read.{window, outerRefusal, packetIn, bodyChecked, bodyAnswer, readPacket}
-use Rattle.packet.specs.Messages.{messageCount, kthMessage, listPacket, listAfter, starts, lengths, messagePacket}
+use Rattle.packet.specs.Messages.{messageCount, kthMessage, listPacket, starts, lengths, messagePacket}
 use Rattle.packet.specs.declared.Packet.{Packet}
 use Rattle.packet.specs.declared.PacketRead.the-variants.{Accepted, Refused}
 
@@ -156,13 +157,13 @@ module _ (a b : List ℕ) (s e f : ℕ) (p : Packet) (h : readPacket a s e ≡ A
   unfolding listPacket
   own-list m n = rw (h, own-read, own-count)
 
-  -- the lists that come back
-  pub own-entries : (m n : ℕ) (old : List ℕ)
-      → (listAfter (listPacket a s e m n) (starts (window a s e)) old ≡ listAfter (listPacket b s f m n) (starts (window b s f)) old)
-      × (listAfter (listPacket a s e m n) (lengths (window a s e)) old ≡ listAfter (listPacket b s f m n) (lengths (window b s f)) old)
-  own-entries m n old = (
-    λ i. listAfter (own-list m n i) (λ k. own-messages i k .start) old,
-    λ i. listAfter (own-list m n i) (λ k. own-messages i k .length) old,
+  -- the entries told are equal, whatever the lists held before
+  pub own-entries : (m n : ℕ) (old old′ : List ℕ)
+      → (entries (listPacket a s e m n) (starts (window a s e)) old ≡ entries (listPacket b s f m n) (starts (window b s f)) old′)
+      × (entries (listPacket a s e m n) (lengths (window a s e)) old ≡ entries (listPacket b s f m n) (lengths (window b s f)) old′)
+  own-entries m n old old′ = (
+    (λ i. entries (own-list m n i) (λ k. own-messages i k .start) old) ∙ entries-told (listPacket b s f m n) (starts (window b s f)) old old′,
+    (λ i. entries (own-list m n i) (λ k. own-messages i k .length) old) ∙ entries-told (listPacket b s f m n) (lengths (window b s f)) old old′,
   )
 
 -- ---- the parts of an accepted packet

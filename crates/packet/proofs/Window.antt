@@ -1,4 +1,4 @@
--- Demand 1, first sentence: nothing outside the window changes an answer. Assumes nothing.
+-- Demand 1: nothing outside the window changes an answer, nor the entries of the lists. Assumes nothing.
 use mathlib.Core.Path.{_≡_, refl, _∙_, sym}
 use mathlib.Core.List.{List}
 use mathlib.Core.Bool.{Bool, true, false}
@@ -19,39 +19,24 @@ use Rattle.packet.specs.declared.PacketRead.the-variants.{Accepted, Refu
 use Rattle.packet.specs.declared.PacketList.{PacketList}
 use Rattle.packet.specs.declared.PacketList.the-variants.{Listed, Unlisted}
 
--- two buffers with the same bytes from start to end
-module _ (a b : List ℕ) (s e : ℕ) (in-a : e ≤ length a) (in-b : e ≤ length b) (same : window a s e ≡ window b s e) where
-  pub read-window : readPacket a s e ≡ readPacket b s e
-  unfolding readPacket outerRefusal outerLines
-  read-window = rw (same, le-leb e (length a) in-a, le-leb e (length b) in-b)
+-- ---- the lists
 
-  pub message-window : (k : ℕ) → messagePacket a s e k ≡ messagePacket b s e k
-  unfolding messagePacket
-  message-window k = rw (same, read-window)
+-- the entries told: as many of a list that came back as the answer counts
+abbrev pub entries : PacketList → (ℕ → ℕ) → List ℕ → List ℕ
+entries r values old = take (listTold r .count) (listAfter r values old)
 
-  pub list-window : (m n : ℕ) → listPacket a s e m n ≡ listPacket b s e m n
-  unfolding listPacket
-  list-window m n = rw (same, read-window)
-
-  -- the lists that come back
-  pub entries-window : (m n : ℕ) (old : List ℕ)
-      → (listAfter (listPacket a s e m n) (starts (window a s e)) old ≡ listAfter (listPacket b s e m n) (starts (window b s e)) old)
-      × (listAfter (listPacket a s e m n) (lengths (window a s e)) old ≡ listAfter (listPacket b s e m n) (lengths (window b s e)) old)
-  entries-window m n old = (rw (same, list-window m n), rw (same, list-window m n))
-
--- what a list held before has no say in the entries told
-pub entries-told : (r : PacketList) (entries : ℕ → ℕ) (old old′ : List ℕ)
-    → take (listTold r .count) (listAfter r entries old) ≡ take (listTold r .count) (listAfter r entries old′)
+-- what a list held before has no say in them
+pub entries-told : (r : PacketList) (values : ℕ → ℕ) (old old′ : List ℕ) → entries r values old ≡ entries r values old′
 unfolding listAfter filled
-entries-told (Listed n) entries old old′ =
-    take-at (tab n entries) (drop n old) n (length-tab n entries) ∙ sym (take-at (tab n entries) (drop n old′) n (length-tab n entries))
-entries-told (Unlisted r) entries old old′ = refl
+entries-told (Listed n) values old old′ =
+    take-at (tab n values) (drop n old) n (length-tab n values) ∙ sym (take-at (tab n values) (drop n old′) n (length-tab n values))
+entries-told (Unlisted r) values old old′ = refl
 
--- and those past the count are what they were
-pub entries-kept : (r : PacketList) (entries : ℕ → ℕ) (old : List ℕ) → drop (listTold r .count) (listAfter r entries old) ≡ drop (listTold r .count) old
+-- those past the count are what they were
+pub entries-kept : (r : PacketList) (values : ℕ → ℕ) (old : List ℕ) → drop (listTold r .count) (listAfter r values old) ≡ drop (listTold r .count) old
 unfolding listAfter filled
-entries-kept (Listed n) entries old = drop-at (tab n entries) (drop n old) n (length-tab n entries)
-entries-kept (Unlisted r) entries old = refl
+entries-kept (Listed n) values old = drop-at (tab n values) (drop n old) n (length-tab n values)
+entries-kept (Unlisted r) values old = refl
 
 -- a list keeps its length: the count fits the shorter list
 counted-fits : (x : PacketRead) (at n room : ℕ) → listTold (listAnswer x at n room) .count ≤ room
@@ -67,7 +52,32 @@ pub count-fits : (buf : List ℕ) (s e m n : ℕ) → listTold (listPacket buf s
 unfolding listPacket
 count-fits buf s e m n = counted-fits (readPacket buf s e) s (messageCount (window buf s e)) (min m n)
 
-pub length-after : (r : PacketList) (entries : ℕ → ℕ) (old : List ℕ) → listTold r .count ≤ length old → length (listAfter r entries old) ≡ length old
+pub length-after : (r : PacketList) (values : ℕ → ℕ) (old : List ℕ) → listTold r .count ≤ length old → length (listAfter r values old) ≡ length old
 unfolding listAfter filled
-length-after (Listed n) entries old h = simp (length-append, length-tab, length-drop) (omega arith)
-length-after (Unlisted r) entries old h = refl
+length-after (Listed n) values old h = simp (length-append, length-tab, length-drop) (omega arith)
+length-after (Unlisted r) values old h = refl
+
+-- ---- the window
+
+-- two buffers with the same bytes from start to end
+module _ (a b : List ℕ) (s e : ℕ) (in-a : e ≤ length a) (in-b : e ≤ length b) (same : window a s e ≡ window b s e) where
+  pub read-window : readPacket a s e ≡ readPacket b s e
+  unfolding readPacket outerRefusal outerLines
+  read-window = rw (same, le-leb e (length a) in-a, le-leb e (length b) in-b)
+
+  pub message-window : (k : ℕ) → messagePacket a s e k ≡ messagePacket b s e k
+  unfolding messagePacket
+  message-window k = rw (same, read-window)
+
+  pub list-window : (m n : ℕ) → listPacket a s e m n ≡ listPacket b s e m n
+  unfolding listPacket
+  list-window m n = rw (same, read-window)
+
+  -- the entries told are equal, whatever the lists held before
+  pub entries-window : (m n : ℕ) (old old′ : List ℕ)
+      → (entries (listPacket a s e m n) (starts (window a s e)) old ≡ entries (listPacket b s e m n) (starts (window b s e)) old′)
+      × (entries (listPacket a s e m n) (lengths (window a s e)) old ≡ entries (listPacket b s e m n) (lengths (window b s e)) old′)
+  entries-window m n old old′ = (
+    rw (same, list-window m n) (entries-told (listPacket b s e m n) (starts (window b s e)) old old′),
+    rw (same, list-window m n) (entries-told (listPacket b s e m n) (lengths (window b s e)) old old′),
+  )

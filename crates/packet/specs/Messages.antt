@@ -30,7 +30,7 @@ countOf (Faulty f) = 0
 unfoldable pub messageCount : List ℕ → ℕ
 messageCount w = countOf (bodyChecked w)
 
--- the k-th, from 0: time (0 if none is stored), ID word, start and length; the start countOf from the packet's first byte
+-- the k-th, from 0: time (0 if none is stored), ID word, start and length; the start counted from the packet's first byte
 unfoldable pub kthMessage : List ℕ → ℕ → Message
 kthMessage w k =
     record {
