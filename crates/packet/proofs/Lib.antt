@@ -2,5 +2,4 @@ pub mod Answers
 pub mod Window
 pub mod Own
 pub mod Told
-pub mod Puts
 pub mod Writes

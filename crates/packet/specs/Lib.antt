@@ -1,4 +1,3 @@
 pub mod Read
 pub mod Messages
-pub mod Bytes
 pub mod Write

@@ -4,23 +4,22 @@ ghost use mathlib.Core.Path.{_≡_};
 ghost use lib.ListN.{length};
 ghost use Rattle.packet.specs.Read.{window, readPacket};
 ghost use Rattle.packet.specs.Messages.{listPacket, listAfter, starts as Messages·starts, lengths as Messages·lengths, messagePacket};
-ghost use Rattle.packet.specs.Bytes.{packetBytes};
+ghost use Rattle.packet_bytes.specs.Bytes.{packetBytes};
 ghost use Rattle.packet.specs.Write.{writePacket, outAfter};
 use body::Message;
 use body::Refusal;
 use body::refuse;
 use frame::Fields;
 use frame::rules::length_for;
+use packet_bytes::put_packet;
 
 mod framed;
-mod put;
 mod writing;
 
 use framed::list_framed;
 use framed::message_framed;
 use framed::outer_refusal;
 use framed::read_framed;
-use put::put_packet;
 use writing::fit;
 use writing::writer_refusal;
 

@@ -14,7 +14,7 @@
 //                                    reads with every value of the byte AT, and the sum mended
 //     write FIELDS BYTES             writes a packet with this body at the buffer's first byte; all of the buffer follows
 //     fill FIELDS N STEP BYTES       the same with a body of N bytes, up to 1,000,000: BYTES, then each the one STEP ahead of it
-//     vary FIELDS WHICH BYTES        writes with every value of the version (WHICH 0), the flags (1) or the type (2)
+//     vary FIELDS WHICH BYTES        writes, into an output of its own, with every value of the version (WHICH 0), the flags (1) or the type (2)
 //
 // FIELDS is CHANNEL TYPE VERSION FLAGS SEQUENCE RTC TIME. TYPE, FLAGS and BYTES are hexadecimal (`-`: no bytes), the others decimal.
 // A refusal is its number, place and room. Of bytes, `(*n)` stands for n that are each like the one ahead of it (or STEP ahead).

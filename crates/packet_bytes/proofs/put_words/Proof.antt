@@ -1,7 +1,7 @@
 use borrow.Author.Needs.{needs}
-use Rattle.packet.proofs.Puts.{words-put}
-use Rattle.packet.proofs.put.put_words.Statement.{statement}
-use Rattle.packet.proofs.put.put_words.Tie as tie
+use Rattle.packet_bytes.proofs.Puts.{words-put}
+use Rattle.packet_bytes.proofs.put_words.Statement.{statement}
+use Rattle.packet_bytes.proofs.put_words.Tie as tie
 
 returns : tie.Need-returns
 returns c =

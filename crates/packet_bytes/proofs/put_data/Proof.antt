@@ -1,7 +1,7 @@
 use borrow.Author.Needs.{needs}
-use Rattle.packet.proofs.Puts.{data-put}
-use Rattle.packet.proofs.put.put_data.Statement.{statement}
-use Rattle.packet.proofs.put.put_data.Tie as tie
+use Rattle.packet_bytes.proofs.Puts.{data-put}
+use Rattle.packet_bytes.proofs.put_data.Statement.{statement}
+use Rattle.packet_bytes.proofs.put_data.Tie as tie
 
 returns : tie.Need-returns
 returns c =

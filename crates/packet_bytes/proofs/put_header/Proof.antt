@@ -1,7 +1,7 @@
 use borrow.Author.Needs.{needs}
-use Rattle.packet.proofs.Puts.{head-put}
-use Rattle.packet.proofs.put.put_header.Statement.{statement}
-use Rattle.packet.proofs.put.put_header.Tie as tie
+use Rattle.packet_bytes.proofs.Puts.{head-put}
+use Rattle.packet_bytes.proofs.put_header.Statement.{statement}
+use Rattle.packet_bytes.proofs.put_header.Tie as tie
 
 returns : tie.Need-returns
 returns c =

@@ -1,7 +1,7 @@
 use borrow.Author.Needs.{needs}
-use Rattle.packet.proofs.Puts.{secondary-put, secondary-none}
-use Rattle.packet.proofs.put.put_secondary.Statement.{statement}
-use Rattle.packet.proofs.put.put_secondary.Tie as tie
+use Rattle.packet_bytes.proofs.Puts.{secondary-put, secondary-none}
+use Rattle.packet_bytes.proofs.put_secondary.Statement.{statement}
+use Rattle.packet_bytes.proofs.put_secondary.Tie as tie
 
 returns : tie.Need-returns
 returns c =

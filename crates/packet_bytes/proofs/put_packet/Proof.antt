@@ -1,7 +1,7 @@
 use borrow.Author.Needs.{needs}
-use Rattle.packet.proofs.Puts.{packet-put}
-use Rattle.packet.proofs.put.put_packet.Statement.{statement}
-use Rattle.packet.proofs.put.put_packet.Tie as tie
+use Rattle.packet_bytes.proofs.Puts.{packet-put}
+use Rattle.packet_bytes.proofs.put_packet.Statement.{statement}
+use Rattle.packet_bytes.proofs.put_packet.Tie as tie
 
 returns : tie.Need-returns
 returns c =

@@ -5,7 +5,7 @@ ghost use lib.ListN.{length, replicate};
 ghost use mathlib.Core.List.{_++_, _∷_, []};
 ghost use Rattle.units.specs.Units.{splice};
 ghost use Rattle.frame.specs.Header.{secondaryLength, bodyAt, lengthFor};
-ghost use Rattle.packet.specs.Bytes.{headWords, headBytes, secondaryBytes, dataBytes, packetBytes};
+ghost use Rattle.packet_bytes.specs.Bytes.{headWords, headBytes, secondaryBytes, dataBytes, packetBytes};
 use frame::Fields;
 use frame::head::put_sum;
 use frame::head::put_sync;

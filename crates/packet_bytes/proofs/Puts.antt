@@ -14,7 +14,7 @@ use Rattle.units.proofs.Numbers.{length-bytesOf}
 use Rattle.units.proofs.Sums.{sum-over}
 use Rattle.units.proofs.Writes.{chain, splice-none, part-splice-same}
 use Rattle.frame.specs.Header.{sync, secondaryBit, secondaryLength, bodyAt, sumCode, sumLength, fillerFor, lengthFor}
-use Rattle.packet.specs.Bytes.{headWords, headBytes, secondaryWords, secondaryBytes, bodyAndFillerBytes, dataBytes, packetBytes}
+use Rattle.packet_bytes.specs.Bytes.{headWords, headBytes, secondaryWords, secondaryBytes, bodyAndFillerBytes, dataBytes, packetBytes}
 use Rattle.frame.specs.declared.Fields.{Fields}
 
 -- ---- a sum over what was written

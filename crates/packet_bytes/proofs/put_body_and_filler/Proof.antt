@@ -1,7 +1,7 @@
 use borrow.Author.Needs.{needs}
-use Rattle.packet.proofs.Puts.{filled-put}
-use Rattle.packet.proofs.put.put_body_and_filler.Statement.{statement}
-use Rattle.packet.proofs.put.put_body_and_filler.Tie as tie
+use Rattle.packet_bytes.proofs.Puts.{filled-put}
+use Rattle.packet_bytes.proofs.put_body_and_filler.Statement.{statement}
+use Rattle.packet_bytes.proofs.put_body_and_filler.Tie as tie
 
 returns : tie.Need-returns
 returns c =

@@ -3,8 +3,8 @@ use native.Mathlib.Omega.{arith}
 use lib.ListN.{length-set}
 use lib.Seq.{sets-eq}
 use borrow.Author.Needs.{needs}
-use Rattle.packet.proofs.put.put_types.Statement.{statement}
-use Rattle.packet.proofs.put.put_types.Tie as tie
+use Rattle.packet_bytes.proofs.put_types.Statement.{statement}
+use Rattle.packet_bytes.proofs.put_types.Tie as tie
 
 returns : tie.Need-returns
 returns c =
