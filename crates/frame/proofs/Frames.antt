@@ -13,8 +13,8 @@ use Rattle.units.specs.Choice.{pick}
 use Rattle.units.proofs.Choices.{and-true}
 use Rattle.units.proofs.Parts.{part-front, field-front}
 use Rattle.units.proofs.Sums.{sum-prefix}
-use Rattle.frame.specs.Header.{byte, channelIn, packetLength, dataLength, versionIn, flagsIn, kindIn, headSumIn, secondaryLength, sumLength, bodyAt, unfilledLength, lengthFor, fillerAt, sumAt, fillerLength, secondaryIn, bodyIn, fillerIn, bodyAndFillerIn, dataSumIn, fieldsIn}
-use Rattle.frame.specs.Rules.{versionOk, typeOk, flagsOk, channelOk, limit, lengthsOk, enough, synced, headSummed, whole, secondarySummed, secondaryOk, dataSummed, fillerOk}
+use Rattle.frame.specs.Header.{byte, channelIn, packetLength, dataLength, versionIn, flagsIn, kindIn, headerSumIn, secondaryLength, sumLength, bodyAt, unfilledLength, lengthFor, fillerAt, sumAt, fillerLength, secondaryIn, bodyIn, fillerIn, bodyAndFillerIn, dataSumIn, fieldsIn}
+use Rattle.frame.specs.Rules.{versionOk, typeOk, flagsOk, channelOk, limit, lengthsOk, enough, synced, headerSummed, whole, secondarySummed, secondaryOk, dataSummed, fillerOk}
 use Rattle.frame.specs.Table.{first, headLines, valueLines, valuesIn, wholeLines, secondaryLines, trailerLines, frameLines}
 use Rattle.frame.specs.Inner.{Sound}
 use Rattle.frame.proofs.Tables.{holds, numbered, stage-none, stage-first, stage-second}
@@ -97,7 +97,7 @@ valued-passes channel version flags kind p d v = rw (v .versionOk, v .typeOk, v 
 pub record Framed (w : List ℕ) : Type 0 where
   pub enough : enough w ≡ true
   pub synced : synced w ≡ true
-  pub headSummed : headSummed w ≡ true
+  pub headerSummed : headerSummed w ≡ true
   pub values : Valued (channelIn w) (versionIn w) (flagsIn w) (kindIn w) (packetLength w) (dataLength w)
   pub whole : whole w ≡ true
   pub secondarySummed : secondarySummed w ≡ true
@@ -120,7 +120,7 @@ framed-says w e =
     record {
       enough = h₂ .0;
       synced = h₃ .0;
-      headSummed = h₄ .0;
+      headerSummed = h₄ .0;
       values = valued-says _ _ _ _ _ _ (p .values);
       whole = h₁₀ .0;
       secondarySummed = h₁₁ .0;
@@ -134,7 +134,7 @@ unfolding headLines wholeLines secondaryLines trailerLines first
 framed-passes w f =
     parted-passes w
     (record {
-      head = rw (f .enough, f .synced, f .headSummed);
+      head = rw (f .enough, f .synced, f .headerSummed);
       values = valued-passes _ _ _ _ _ _ (f .values);
       there = rw (f .whole);
       secondary = rw (f .secondarySummed, f .secondaryOk);
@@ -231,7 +231,7 @@ module _ (v t : List ℕ) (header : 24 ≤ length v) (there : packetLength v ≤
   pub data-length-front : dataLength (v ++ t) ≡ dataLength v
   data-length-front = field-front v t 8 4 (omega arith)
 
-  pub head-sum-front : headSumIn (v ++ t) ≡ headSumIn v
+  pub head-sum-front : headerSumIn (v ++ t) ≡ headerSumIn v
   head-sum-front = field-front v t 22 2 (omega arith)
 
   pub filler-at-front : fillerAt (v ++ t) ≡ fillerAt v

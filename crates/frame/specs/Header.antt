@@ -45,8 +45,8 @@ abbrev pub rtcIn : List ℕ → ℕ
 rtcIn w = field w 16 6
 
 -- byte 22: header sum, 2 bytes
-abbrev pub headSumIn : List ℕ → ℕ
-headSumIn w = field w 22 2
+abbrev pub headerSumIn : List ℕ → ℕ
+headerSumIn w = field w 22 2
 
 -- ---- its flags
 
@@ -129,7 +129,7 @@ timeIn w = field (secondaryIn w) 0 8
 abbrev pub reservedIn : List ℕ → ℕ
 reservedIn w = field (secondaryIn w) 8 2
 
--- what a packet holds but for its body, and what a writer is told
+-- what a writer is told but for the body, and a reader tells: the header's numbers that are not worked out, and the secondary time
 unfoldable pub fieldsIn : List ℕ → Fields
 fieldsIn w =
     record {

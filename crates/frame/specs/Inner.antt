@@ -1,4 +1,4 @@
--- What functions inside the house rely on, once 2 to 10 of the table have let a window through. No rule of its own: the laws prove it.
+-- What functions inside these crates rely on, once 2 to 10 of the table have let a window through. No rule of its own: the laws prove it.
 use mathlib.Core.Path.{_≡_}
 use mathlib.Core.List.{List}
 use Prim.Native.Nat.{ℕ, _%_, _≤_}
@@ -6,7 +6,7 @@ use lib.ListN.{length}
 use Rattle.frame.specs.Header.{packetLength, dataLength, flagsIn, bodyAt, unfilledLength, fillerAt, sumAt}
 use Rattle.frame.specs.declared.Layout.{Layout}
 
--- what 2 to 10 say
+-- what 2, 9 and 10 leave of the lengths
 pub record Sound (w : List ℕ) : Type 0 where
   pub header : 24 ≤ length w
   pub there : packetLength w ≤ length w

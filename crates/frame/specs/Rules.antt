@@ -75,8 +75,8 @@ abbrev pub synced : List ℕ → Bool
 synced w = eqb (byte w 0) (byte sync 0) && eqb (byte w 1) (byte sync 1)
 
 -- the sum of the eleven 16-bit words ahead of it
-abbrev pub headSummed : List ℕ → Bool
-headSummed w = summed 2 11 w
+abbrev pub headerSummed : List ℕ → Bool
+headerSummed w = summed 2 11 w
 
 -- P is within the window
 abbrev pub whole : List ℕ → Bool

@@ -4,7 +4,7 @@ use mathlib.Core.Bool.{Bool}
 use Prim.Native.Nat.{ℕ}
 use Rattle.units.specs.Choice.{pick}
 use Rattle.frame.specs.Header.{channelIn, packetLength, dataLength, versionIn, flagsIn, kindIn}
-use Rattle.frame.specs.Rules.{versionOk, typeOk, flagsOk, channelOk, lengthsOk, enough, synced, headSummed, whole, secondarySummed, secondaryOk, dataSummed, fillerOk}
+use Rattle.frame.specs.Rules.{versionOk, typeOk, flagsOk, channelOk, lengthsOk, enough, synced, headerSummed, whole, secondarySummed, secondaryOk, dataSummed, fillerOk}
 
 -- a line of the table: the refusal's number, and whether the rule holds
 pub data Line : Type 0 where
@@ -20,7 +20,7 @@ unfoldable pub headLines : List ℕ → List Line
 headLines w =
     line 2 (enough w)
     ∷ line 3 (synced w)
-    ∷ line 4 (headSummed w)
+    ∷ line 4 (headerSummed w)
     ∷ []
 
 -- 5 to 9: may its numbers be so

@@ -3,7 +3,7 @@ ghost use mathlib.Core.Path.{_≡_};
 ghost use Prim.Native.Nat.{_≤_};
 ghost use lib.ListN.{length};
 ghost use Rattle.frame.specs.Header.{flagsIn, secondaryBit, timeIn, fieldsIn};
-ghost use Rattle.frame.specs.Rules.{headSummed, secondarySummed, secondaryOk, dataSummed, fillerOk};
+ghost use Rattle.frame.specs.Rules.{headerSummed, secondarySummed, secondaryOk, dataSummed, fillerOk};
 ghost use Rattle.frame.specs.Table.{first, headLines, valuesIn, secondaryLines, trailerLines, frameLines};
 ghost use Rattle.frame.specs.Inner.{Sound, Measured};
 use crate::Fields;
@@ -61,7 +61,7 @@ pub fn measure(w: &[u8]) -> Layout
     }
 }
 
-// What a packet holds but for its body.
+// The header's numbers that are not worked out, and the secondary time.
 pub fn fields_in(w: &[u8]) -> Fields
     requires { ⌜ Sound (now w) ⌝ }
     ensures { λ r. ⌜ r ≡ fieldsIn (now (w .entry)) ⌝ }
@@ -95,7 +95,7 @@ fn head_refusal(w: &[u8]) -> u8
 
 fn header_summed(w: &[u8]) -> bool
     requires { ⌜ 24 ≤ length (now w) ⌝ }
-    ensures { λ r. ⌜ r ≡ headSummed (now (w .entry)) ⌝ }
+    ensures { λ r. ⌜ r ≡ headerSummed (now (w .entry)) ⌝ }
 {
     header_sum(w) == read16(w, 22)
 }

@@ -24,7 +24,7 @@ use Rattle.body.specs.declared.Picked.{Picked}
 use Rattle.body.specs.declared.Picked.the-variants.{One, Unread, Missing}
 use Rattle.body.specs.declared.Listed as body-listed
 use Rattle.body.specs.declared.Listed.the-variants.{Count, Unlisted as Body·Unlisted, NoRoom}
-use Rattle.frame.specs.Header.{packetLength, dataLength, flagsIn, kindIn, headSumIn, sumLength, secondaryLength, bodyAt, bodyIn, fieldsIn}
+use Rattle.frame.specs.Header.{packetLength, dataLength, flagsIn, kindIn, headerSumIn, sumLength, secondaryLength, bodyAt, bodyIn, fieldsIn}
 use Rattle.frame.specs.Rules.{messageRule}
 use Rattle.frame.specs.Table.{first, frameLines}
 use Rattle.frame.specs.Inner.{Sound, Measured}
@@ -156,7 +156,7 @@ module _ (c : Checked) (w : List ℕ) (at : ℕ) (is : c ≡ bodyChecked w) wher
 
 -- the packet's record
 pub packet-is : (w : List ℕ) (at : ℕ) (l : Layout) (f : Fields) (p d h x : ℕ) → Sound w → Measured w l → f ≡ fieldsIn w → p ≡ packetLength w → d ≡ dataLength w
-    → h ≡ headSumIn w → x ≡ field w (l .sum) (sumLength (flagsIn w))
+    → h ≡ headerSumIn w → x ≡ field w (l .sum) (sumLength (flagsIn w))
     → record {
       fields = f;
       length = p;

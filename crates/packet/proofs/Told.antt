@@ -118,7 +118,7 @@ module _ (buf : List ℕ) (s e : ℕ) where
   refusal-top : (r : Refusal) → readPacket buf s e ≡ Refused r → r .number ≤ 15
   refusal-top r q = omega (arith, ap (λ (x : PacketRead). told x .refusal .number) q, read-numbered buf s e)
 
-  -- one more test behind the reader's: a refusal numbered n, or what was asked for
+  -- one more test behind the reader's: 16 with n as room, or the count n
   list-room : (t : Bool) (n : ℕ) → listTold (pick t (Unlisted (refused 16 s n)) (Listed n)) .refusal .number ≡ 0
       → pick t (Unlisted (refused 16 s n)) (Listed n) ≡ Listed (listTold (pick t (Unlisted (refused 16 s n)) (Listed n)) .count)
   list-room true n z = absurd (omega (arith, z))
@@ -147,7 +147,7 @@ module _ (buf : List ℕ) (s e : ℕ) where
   unfolding listPacket
   list-numbered m n = list-top (readPacket buf s e) (messageCount (window buf s e)) (min m n) refl
 
--- ---- one message: it, or 1 to 15 or 17
+-- ---- one message: it, or a refusal of at most 17
 
 module _ (buf : List ℕ) (s e : ℕ) where
   message-there : (t : Bool) (m : Message) → messageTold (pick t (Withheld (refused 17 s 0)) (Given m)) .refusal .number ≡ 0
@@ -179,7 +179,7 @@ module _ (buf : List ℕ) (s e : ℕ) where
   unfolding messagePacket
   message-numbered k = message-top (readPacket buf s e) (messageCount (window buf s e)) k (kthMessage (window buf s e) k) refl
 
--- ---- the writer: the length written, or one of 17, 5 to 9, 12, 15 and 16
+-- ---- the writer: the length written, or a refusal of at most 17
 
 abbrev IsWritten : PacketWrite → Type 0
 IsWritten x = writeTold x .refusal .number ≡ 0 → x ≡ Written (writeTold x .length)

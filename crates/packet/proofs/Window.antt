@@ -38,7 +38,7 @@ unfolding listAfter filled
 entries-kept (Listed n) values old = drop-at (tab n values) (drop n old) n (length-tab n values)
 entries-kept (Unlisted r) values old = refl
 
--- a list keeps its length: the count fits the shorter list
+-- the count fits the shorter list, and so a list keeps its length
 counted-fits : (x : PacketRead) (at n room : ℕ) → listTold (listAnswer x at n room) .count ≤ room
 unfolding listAnswer
 counted-fits (Accepted p) at n room = go (ltb room n) refl
@@ -59,7 +59,7 @@ length-after (Unlisted r) values old h = refl
 
 -- ---- the window
 
--- two buffers with the same bytes from start to end
+-- two buffers that reach to the end, with the same bytes from start to it
 module _ (a b : List ℕ) (s e : ℕ) (in-a : e ≤ length a) (in-b : e ≤ length b) (same : window a s e ≡ window b s e) where
   pub read-window : readPacket a s e ≡ readPacket b s e
   unfolding readPacket outerRefusal outerLines

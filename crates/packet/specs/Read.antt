@@ -11,7 +11,7 @@ use Rattle.body.specs.Answers.{checkBody}
 use Rattle.body.specs.declared.Refusal.{Refusal}
 use Rattle.body.specs.declared.Checked.{Checked}
 use Rattle.body.specs.declared.Checked.the-variants.{Counted, Faulty}
-use Rattle.frame.specs.Header.{packetLength, dataLength, flagsIn, kindIn, headSumIn, sumLength, secondaryLength, bodyAt, fillerAt, sumAt, fillerLength, bodyIn, dataSumIn, fieldsIn}
+use Rattle.frame.specs.Header.{packetLength, dataLength, flagsIn, kindIn, headerSumIn, sumLength, secondaryLength, bodyAt, fillerAt, sumAt, fillerLength, bodyIn, dataSumIn, fieldsIn}
 use Rattle.frame.specs.Rules.{messageRule}
 use Rattle.frame.specs.Table.{Line, line, first, frameLines}
 use Rattle.packet.specs.declared.Part.{Part}
@@ -49,7 +49,7 @@ packetIn w at =
       fields = fieldsIn w;
       length = packetLength w;
       datalength = dataLength w;
-      headsum = headSumIn w;
+      headsum = headerSumIn w;
       datasum = dataSumIn w;
       header = partAt at 24;
       secondary = partAt (at + 24) (secondaryLength (flagsIn w));
@@ -64,7 +64,7 @@ packetIn w at =
 unfoldable pub bodyChecked : List ℕ → Checked
 bodyChecked w = checkBody (kindIn w) (messageRule (flagsIn w)) (bodyIn w)
 
--- 15, at the channel word or the block at fault; else the packet is accepted
+-- 15, at the channel word or the block at fault (or the bytes left over, or where a missing block should begin); else the packet is accepted
 unfoldable pub bodyAnswer : Checked → List ℕ → ℕ → PacketRead
 bodyAnswer (Counted n) w at = Accepted (packetIn w at)
 bodyAnswer (Faulty f) w at = Refused (fault (at + bodyAt (flagsIn w) + f .place))
@@ -78,7 +78,7 @@ readPacket buf start end =
 
 -- ---- document 01's number and values of an answer
 
--- no refusal: number 0, and no place
+-- no refusal: number, place and room are 0
 abbrev pub noRefusal : Refusal
 noRefusal = refused 0 0 0
 

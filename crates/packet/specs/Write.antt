@@ -19,7 +19,7 @@ use Rattle.packet.specs.Read.{noRefusal}
 use Rattle.packet.specs.declared.PacketWrite.{PacketWrite}
 use Rattle.packet.specs.declared.PacketWrite.the-variants.{Written, Unwritten}
 
--- else 17: RTC below 2^48; a secondary time other than 0 only with bit 7 set
+-- RTC is below 2^48, and a secondary time other than 0 is there only with bit 7 set; else 17
 abbrev pub inRange : Fields → Bool
 inRange f = ltb (f .rtc) (2 ^ 48) && (eqb (secondaryBit (f .flags)) 1 || eqb (f .time) 0)
 

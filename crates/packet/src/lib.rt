@@ -80,7 +80,7 @@ pub fn read_packet(buf: &[u8], start: usize, end: usize) -> PacketRead
 
 // Lists the start, counted from the packet's first byte, and the length of each message of the packet at the start of a window.
 // The reader's refusals, then 16 where there are more messages than the shorter list holds, with their number as room; a type
-// that isn't opened has none. Entries past the count are untouched, and on a refusal all are.
+// that isn't opened has no messages. Entries past the count are untouched, and on a refusal all are.
 pub fn list_messages(
     buf: &[u8],
     start: usize,

@@ -47,7 +47,7 @@ fn in_range(fields: Fields) -> bool
     (fields.rtc < 0x1_0000_0000_0000) & ((fields.flags / 128 % 2 == 1) | (fields.time == 0))
 }
 
-// 15, then 16 for a packet of this length in an output of this room.
+// 15, then 16 for a packet of this length in an output of this room, or its length.
 pub fn fit(fields: Fields, body: &[u8], length: usize, room: usize) -> PacketWrite
     ensures { λ r. ⌜ r ≡ fitted (checkBody (fields .kind) (messageRule (fields .flags)) (now (body .entry))) length room ⌝ }
 {

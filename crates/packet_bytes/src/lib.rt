@@ -50,12 +50,12 @@ fn put_words(out: &mut [u8], fields: Fields, p: u32, d: u32)
     put16(out, 2, fields.channel);
     put32(out, 4, p);
     put32(out, 8, d);
-    put_types(out, fields);
+    put_bytes(out, fields);
     put48(out, 16, fields.rtc);
 }
 
-// Writes version, sequence number, flags and type.
-fn put_types(out: &mut [u8], fields: Fields)
+// Writes version, sequence number, flags and type, a byte each.
+fn put_bytes(out: &mut [u8], fields: Fields)
     requires { ⌜ 16 ≤ length (now out) ⌝ }
     ensures { λ _. ⌜ now (out .exit) ≡ splice (now (out .entry)) 12 (fields .version ∷ fields .sequence ∷ fields .flags ∷ fields .kind ∷ []) ⌝ }
 {

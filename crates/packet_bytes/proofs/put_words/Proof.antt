@@ -13,7 +13,7 @@ returns c =
     let sync = channel .before .before .before .before in
     let start = sync .before .before .before in
     words-put _ _ _ _ _ _ _ _ _ _ (start .pre)
-    (sync .put-sync .ensures) (channel .put16 .ensures) (p .put32 .ensures) (d .put322 .ensures) (types .put-types .ensures) (rtc .put48 .ensures)
+    (sync .put-sync .ensures) (channel .put16 .ensures) (p .put32 .ensures) (d .put322 .ensures) (types .put-bytes .ensures) (rtc .put48 .ensures)
 
 pub put-words-spec : {M : Type 1} → statement M
 put-words-spec =

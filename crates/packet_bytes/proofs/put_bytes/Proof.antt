@@ -3,16 +3,16 @@ use native.Mathlib.Omega.{arith}
 use lib.ListN.{length-set}
 use lib.Seq.{sets-eq}
 use borrow.Author.Needs.{needs}
-use Rattle.packet_bytes.proofs.put_types.Statement.{statement}
-use Rattle.packet_bytes.proofs.put_types.Tie as tie
+use Rattle.packet_bytes.proofs.put_bytes.Statement.{statement}
+use Rattle.packet_bytes.proofs.put_bytes.Tie as tie
 
 returns : tie.Need-returns
 returns c =
     let f = c .args .fields in
     sets-eq (f .version ∷ f .sequence ∷ f .flags ∷ f .kind ∷ []) (c .args .out .now) 12 (c .pre)
 
-pub put-types-spec : {M : Type 1} → statement M
-put-types-spec =
+pub put-bytes-spec : {M : Type 1} → statement M
+put-bytes-spec =
     tie.close
     (tie.spec
     (λ c. search needs)
