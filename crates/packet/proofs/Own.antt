@@ -90,7 +90,7 @@ fits buf s e p h =
 -- ---- what is said of a packet whatever stands behind it
 
 module _ (v t : List ℕ) (header : 24 ≤ length v) (there : packetLength v ≤ length v) (parts : unfilledLength (flagsIn v) (dataLength v) ≤ packetLength v) where
-  checked-front : bodyChecked (v ++ t) ≡ bodyChecked v
+  pub checked-front : bodyChecked (v ++ t) ≡ bodyChecked v
   unfolding bodyChecked
   checked-front = rw (body-front v t header there parts, kind-front v t header there parts, flags-front v t header there parts)
 

@@ -39,7 +39,7 @@ no-more : (m : ℕ) → first [] ≤ m
 unfolding first
 no-more m = omega arith
 
-outer-top : (buf : List ℕ) (s e : ℕ) → outerRefusal buf s e ≤ 14
+pub outer-top : (buf : List ℕ) (s e : ℕ) → outerRefusal buf s e ≤ 14
 unfolding outerRefusal outerLines frameLines headLines valueLines wholeLines secondaryLines trailerLines
 outer-top buf s e =
     top 14 1 _ _ (omega arith)

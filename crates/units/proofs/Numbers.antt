@@ -27,6 +27,11 @@ unfolding Bytes
 bytes-right [] ys h = h
 bytes-right (x ∷ xs) ys h = bytes-right xs ys (h .1)
 
+pub bytes-append : (xs ys : List ℕ) → Bytes xs → Bytes ys → Bytes (xs ++ ys)
+unfolding Bytes
+bytes-append [] ys h g = g
+bytes-append (x ∷ xs) ys h g = (h .0, bytes-append xs ys (h .1) g)
+
 pub bytes-take : (n : ℕ) (xs : List ℕ) → Bytes xs → Bytes (take n xs)
 bytes-take n xs h = bytes-left (take n xs) (drop n xs) (rw take-append-drop h)
 

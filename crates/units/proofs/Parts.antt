@@ -1,11 +1,11 @@
 -- Laws of parts and fields. Assumes nothing.
-use mathlib.Core.Path.{_≡_, refl, sym, ap, subst}
+use mathlib.Core.Path.{_≡_, refl, sym, ap, subst, _∙_}
 use mathlib.Core.List.{List, [], _∷_, _++_}
 use Prim.Native.Nat.{ℕ, zero, suc, _+_, _-_, _*_, _^_, _≤_, _<_}
 use native.Mathlib.Omega.{arith}
 use native.Mathlib.Nat.{zero-add, add-zero, pow-succ', mul-assoc, suc-sub-suc, zero-sub, sub-zero, suc-add}
 use lib.ListN.{length, take, drop, getD, length-take, length-drop}
-use lib.Seq.{take-take, drop-drop, take-append-le, drop-append-le, drop-append-add, take-at, drop-at, take-nil, drop-nil}
+use lib.Seq.{take-take, take-add, drop-drop, take-append-le, drop-append-le, drop-append-add, take-at, drop-at, take-nil, drop-nil}
 use Rattle.units.specs.Units.{Bytes, part, num, field, bytesOf}
 use Rattle.units.proofs.Numbers.{bytes-take, bytes-drop, bytesOf-num, num-lt}
 
@@ -22,6 +22,10 @@ drop-take zero n l = rw sub-zero
 drop-take (suc b) zero l = rw zero-sub
 drop-take (suc b) (suc n) [] = sym (take-nil (suc n - suc b))
 drop-take (suc b) (suc n) (x ∷ xs) = rw suc-sub-suc (drop-take b n xs)
+
+-- one behind the other
+pub part-add : (bs : List ℕ) (at n m : ℕ) → part bs at (n + m) ≡ part bs at n ++ part bs (at + n) m
+part-add bs at n m = take-add n m (drop at bs) ∙ ap (λ (l : List ℕ). part bs at n ++ take m l) (drop-drop n at bs)
 
 pub part-part : (bs : List ℕ) (a n b m : ℕ) → b + m ≤ n → part (part bs a n) b m ≡ part bs (a + b) m
 part-part bs a n b m h =

@@ -141,7 +141,7 @@ module _ (w : ℕ) (front old new back : List ℕ) (ho : length old ≡ w) (hn :
       (cc (summed-says w k (front ++ (old ++ back)) t, e, own old k hf ho, own new k hf hn, sum-over w k front (old ++ back) hf, sum-over w k front (new ++ back) hf)))
 
 -- THE fact, at every width: k units and their sum, one of them, the sum's own too, replaced by a different one: the sum is wrong
-pub sum-sees : (w k j : ℕ) (xs ys : List ℕ) → 0 < w → length xs ≡ w * suc k → Bytes xs → Changed w j xs ys → summed w k xs ≡ true → summed w k ys ≡ false
+pub sum-sees : (w k j : ℕ) (xs ys : List ℕ) → 0 < w → length xs ≡ w * suc k → Bytes xs → Changed (w * j) w xs ys → summed w k xs ≡ true → summed w k ys ≡ false
 sum-sees w k j xs ys hw hl bx c t = rw (c .is) (go (decLt j k) (decLt k j))
   where
     t' : summed w k (c .front ++ (c .old ++ c .back)) ≡ true

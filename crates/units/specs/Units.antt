@@ -79,15 +79,15 @@ dataSum code bs = checksum (sumWidth code) (length bs / sumWidth code) bs
 unfoldable pub summed : ℕ → ℕ → List ℕ → Bool
 summed w k bs = eqb (checksum w k bs) (field bs (w * k) w)
 
--- ys is xs with its unit number j, of w bytes, replaced by a different one
-pub record Changed (w j : ℕ) (xs ys : List ℕ) : Type 0 where
+-- ys is xs with the unit of w bytes at `at` replaced by a different one
+pub record Changed (at w : ℕ) (xs ys : List ℕ) : Type 0 where
   pub front : List ℕ
   pub old : List ℕ
   pub new : List ℕ
   pub back : List ℕ
   pub was : xs ≡ front ++ (old ++ back)
   pub is : ys ≡ front ++ (new ++ back)
-  pub place : length front ≡ w * j
+  pub place : length front ≡ at
   pub old-width : length old ≡ w
   pub new-width : length new ≡ w
   pub new-bytes : Bytes new

@@ -1,0 +1,14 @@
+pub mod Writer
+pub mod Regions
+pub mod Written
+pub mod Again
+pub mod Reported
+pub mod Spoilt
+pub mod Alterations
+pub mod Recordings
+pub mod Ends
+pub mod Starred
+pub mod Once
+pub mod Demand1
+pub mod Demand2
+pub mod Demand3

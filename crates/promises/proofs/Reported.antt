@@ -1,0 +1,258 @@
+-- A packet is accepted exactly when every rule holds, and what the calls report of its messages is what is there. Assumes nothing.
+use mathlib.Core.Path.{_≡_, refl, sym, ap, _∙_}
+use mathlib.Core.List.{List, [], _∷_, _++_}
+use mathlib.Core.Bool.{Bool, true, false}
+use Prim.Native.Nat.{ℕ, zero, suc, _+_, _-_, _≤_, _<_, min}
+use native.Mathlib.Omega.{arith}
+use native.Mathlib.Decide.{decLe}
+use lib.ListN.{length, take, drop, getD, List·getD-append}
+use lib.Seq.{getD-at}
+use lib.Dec.{leb}
+use borrow.Author.Tests.{le-leb, lt-leb, le-ltb, lt-ltb, leb-true}
+use Rattle.units.specs.Units.{Bytes, part}
+use Rattle.units.proofs.Choices.{and-true}
+use Rattle.units.proofs.Parts.{length-part, bytes-part, part-part}
+use Rattle.body.specs.Walk.{refused, opens, openBody, stampLength}
+use Rattle.body.specs.Answers.{noMessage, checkBody, messageIn, tab, filled}
+use Rattle.body.specs.Blocks.{Entry, noEntry, blocksBytes, messageOn, entryAt, entriesIn, BodyOf}
+use Rattle.body.specs.declared.TimeRule.{TimeRule}
+use Rattle.body.specs.declared.Message.{Message}
+use Rattle.body.specs.declared.Checked.the-variants.{Counted}
+use Rattle.body.proofs.Reading.{length-tab}
+use Rattle.body.proofs.Bounds.{message-fits}
+use Rattle.body.proofs.Exactly.{body-of-blocks, body-messages, body-is-blocks}
+use Rattle.frame.specs.Header.{dataLength, flagsIn, kindIn, bodyAt, bodyIn}
+use Rattle.frame.specs.Rules.{messageRule}
+use Rattle.frame.proofs.Frames.{framed-says, framed-passes}
+use Rattle.packet.specs.Read.{window, packetIn, bodyChecked, readPacket, noRefusal}
+use Rattle.packet.specs.Messages.{messageCount, kthMessage, listAnswer, listPacket, listAfter, starts, lengths, messageAnswer, messagePacket, listTold, messageTold}
+use Rattle.packet.specs.declared.Packet.{Packet}
+use Rattle.packet.specs.declared.PacketRead.the-variants.{Accepted}
+use Rattle.packet.specs.declared.PacketList.{PacketList}
+use Rattle.packet.specs.declared.PacketList.the-variants.{Listed, Unlisted}
+use Rattle.packet.specs.declared.PacketMessage.the-variants.{Given, Withheld}
+use Rattle.packet.proofs.Answers.{Open, outer-open, outer-inside, ahead}
+use Rattle.packet.proofs.Own.{accepted-at, at-accepted}
+use Rattle.promises.specs.Endings.{listedTold, givenTold}
+use Rattle.promises.specs.Keeps.{Keeps}
+use Rattle.promises.specs.Reports.{messageFor, Reports}
+
+-- ---- accepted exactly when every rule holds
+
+-- a body of a type that isn't opened passes, with no message
+carried-counted : (kind : ℕ) (rule : TimeRule) (bs : List ℕ) → opens kind ≡ false → checkBody kind rule bs ≡ Counted 0
+unfolding checkBody openBody
+carried-counted kind rule bs o = rw o
+
+-- a body that keeps rule 15 is counted
+kept-counted : (kind : ℕ) (rule : TimeRule) (bs : List ℕ) → (opens kind ≡ true → (es : List Entry) × BodyOf kind rule bs es)
+    → (n : ℕ) × (checkBody kind rule bs ≡ Counted n)
+kept-counted kind rule bs messages = go (opens kind) refl
+  where
+    go : (o : Bool) → opens kind ≡ o → (n : ℕ) × (checkBody kind rule bs ≡ Counted n)
+    go true o = let m = messages o in (length (m .0), body-of-blocks kind rule bs (m .0) (m .1) .0)
+    go false o = (0, carried-counted kind rule bs o)
+
+kept-open : (buf : List ℕ) (s e : ℕ) → Keeps buf s e (window buf s e) → Open buf s e
+kept-open buf s e k =
+    let i = and-true (leb s e) (leb e (length buf)) (k .inside) in
+    let framed =
+    framed-passes (window buf s e)
+    (record {
+      enough = k .enough;
+      synced = k .synced;
+      headerSummed = k .headerSummed;
+      values =
+          record {
+            versionOk = k .versionOk;
+            typeOk = k .typeOk;
+            flagsOk = k .flagsOk;
+            channelOk = k .channelOk;
+            lengthsOk = k .lengthsOk;
+          };
+      whole = k .whole;
+      secondarySummed = k .secondarySummed;
+      secondaryOk = k .secondaryOk;
+      dataSummed = k .dataSummed;
+      fillerOk = k .fillerOk;
+    }) in
+    outer-open buf s e (sym (outer-inside buf s e 0 (leb-true s e (i .0)) (leb-true e (length buf) (i .1)) (sym framed)))
+
+-- a packet that keeps every rule is accepted
+pub keeps-accepted : (buf : List ℕ) (s e : ℕ) → Keeps buf s e (window buf s e) → (p : Packet) × (readPacket buf s e ≡ Accepted p)
+unfolding bodyChecked
+keeps-accepted buf s e k =
+    let w = window buf s e in
+    let c = kept-counted (kindIn w) (messageRule (flagsIn w)) (bodyIn w) (k .messages) in
+    (packetIn w s, at-accepted buf s e (packetIn w s) (record { opens = kept-open buf s e k; count = c .0; body = c .1; packet = refl }))
+
+-- and no other
+pub accepted-keeps : (buf : List ℕ) (s e : ℕ) (p : Packet) → Bytes buf → readPacket buf s e ≡ Accepted p → Keeps buf s e (window buf s e)
+unfolding bodyChecked
+accepted-keeps buf s e p raw h =
+    let w = window buf s e in
+    let a = accepted-at buf s e p h in
+    let f = framed-says w (a .opens .framed) in
+    let rule = messageRule (flagsIn w) in
+    let bytes : Bytes (bodyIn w) = bytes-part w (bodyAt (flagsIn w)) (dataLength w) (bytes-part buf s (e - s) raw) in
+    record {
+      inside = rw (le-leb s e (a .opens .ordered), le-leb e (length buf) (a .opens .within));
+      enough = f .enough;
+      synced = f .synced;
+      headerSummed = f .headerSummed;
+      versionOk = f .values .versionOk;
+      typeOk = f .values .typeOk;
+      flagsOk = f .values .flagsOk;
+      channelOk = f .values .channelOk;
+      lengthsOk = f .values .lengthsOk;
+      whole = f .whole;
+      secondarySummed = f .secondarySummed;
+      secondaryOk = f .secondaryOk;
+      dataSummed = f .dataSummed;
+      fillerOk = f .fillerOk;
+      messages =
+          λ o. (entriesIn (kindIn w) rule (bodyIn w) (a .count), body-is-blocks (kindIn w) rule (bodyIn w) (a .count) bytes o (a .body) .1);
+    }
+
+-- ---- what the calls say of an accepted packet with n messages
+
+module _ (buf : List ℕ) (s e : ℕ) (p : Packet) (n : ℕ) (h : readPacket buf s e ≡ Accepted p) (has : bodyChecked (window buf s e) ≡ Counted n) where
+  count-is : messageCount (window buf s e) ≡ n
+  unfolding messageCount
+  count-is = rw has
+
+  lists-all : (len₁ len₂ : ℕ) → n ≤ min len₁ len₂ → listPacket buf s e len₁ len₂ ≡ Listed n
+  unfolding listPacket listAnswer
+  lists-all len₁ len₂ room = rw (h, count-is, le-ltb (min len₁ len₂) n room)
+
+  lists-none : (len₁ len₂ : ℕ) → min len₁ len₂ < n → listPacket buf s e len₁ len₂ ≡ Unlisted (refused 16 s n)
+  unfolding listPacket listAnswer
+  lists-none len₁ len₂ short = rw (h, count-is, lt-ltb (min len₁ len₂) n short)
+
+  gives-each : (k : ℕ) → k < n → messagePacket buf s e k ≡ Given (kthMessage (window buf s e) k)
+  unfolding messagePacket messageAnswer
+  gives-each k more = rw (h, count-is, lt-leb n k more)
+
+  gives-no-other : (k : ℕ) → n ≤ k → messagePacket buf s e k ≡ Withheld (refused 17 s 0)
+  unfolding messagePacket messageAnswer
+  gives-no-other k past = rw (h, count-is, le-leb n k past)
+
+-- ---- lists filled from the front
+
+tab-at : {A : Type 0} (n : ℕ) (f : ℕ → A) (d : A) (k : ℕ) → k < n → getD (tab n f) k d ≡ f k
+unfolding tab
+tab-at zero f d k h = absurd (omega arith)
+tab-at (suc n) f d k h = go (decLe n k) (tab-at n f d k)
+  where
+    go : Dec (n ≤ k) → (k < n → getD (tab n f) k d ≡ f k) → getD (tab n f ++ (f n ∷ [])) k d ≡ f k
+    go (yes l) before = let z : n ≡ k = omega arith in getD-at (tab n f) (f n) [] d k (length-tab n f ∙ z) ∙ ap f z
+    go (no l) before = List·getD-append (tab n f) (f n ∷ []) d k (omega (arith, length-tab n f)) ∙ before (omega arith)
+
+-- what a lister leaves in a list, entry by entry
+listed-at : (n : ℕ) (entries : ℕ → ℕ) (old : List ℕ) (r : PacketList) (k : ℕ) → r ≡ Listed n → k < n → getD (listAfter r entries old) k 0 ≡ entries k
+unfolding listAfter filled
+listed-at n entries old r k q h = rw q (List·getD-append (tab n entries) (drop n old) 0 k (omega (arith, length-tab n entries)) ∙ tab-at n entries 0 k h)
+
+-- ---- a body of these blocks: each is where it is reported
+
+module _ (kind : ℕ) (rule : TimeRule) (bs : List ℕ) (es : List Entry) (b : BodyOf kind rule bs es) (k : ℕ) (more : k < length es) where
+  -- the k-th as a message of the body
+  abbrev inBody : Message
+  inBody = messageOn (b .shape .stamped) (4 + length (blocksBytes (b .shape .stamped) (take k es))) (getD es k noEntry)
+
+  block-fits : inBody .start + inBody .length ≤ length bs
+  block-fits =
+      let m = body-messages kind rule bs es b k more in
+      let f = message-fits kind rule bs (length es) k (body-of-blocks kind rule bs es b .0) more in
+      omega (arith, f, ap (λ (x : Message). x .start) m, ap (λ (x : Message). x .length) m)
+
+  block-bytes : part bs (inBody .start) (inBody .length) ≡ getD es k noEntry .bytes
+  unfolding entriesIn
+  block-bytes =
+      let m = body-messages kind rule bs es b k more in
+      let entries = body-of-blocks kind rule bs es b .1 in
+      let entry : entryAt bs (messageIn kind rule bs k) ≡ getD es k noEntry =
+      sym (tab-at (length es) (λ j. entryAt bs (messageIn kind rule bs j)) noEntry k more) ∙ ap (λ (l : List Entry). getD l k noEntry) entries in
+      ap (λ (x : Message). entryAt bs x .bytes) (sym m) ∙ ap (λ (x : Entry). x .bytes) entry
+
+-- ---- what the calls report of a packet is what is there
+
+-- where the k-th message stands in a packet, from where it stands in the body
+ahead-is : (flags : ℕ) (stamped : Bool) (es : List Entry) (k : ℕ)
+    → ahead (bodyAt flags) (messageOn stamped (4 + length (blocksBytes stamped (take k es))) (getD es k noEntry)) ≡ messageFor flags stamped es k
+ahead-is flags stamped es k =
+    let before = length (blocksBytes stamped (take k es)) in
+    let start : bodyAt flags + (4 + before + stampLength stamped + 4) ≡ bodyAt flags + 4 + before + stampLength stamped + 4 = omega arith in
+    let x = getD es k noEntry in
+    λ i. record { time = x .time; id = x .id; start = start i; length = length (x .bytes) }
+
+-- of an accepted packet whose body is some blocks, the calls report these
+module _ (buf : List ℕ) (s e : ℕ) (p : Packet) (es : List Entry) (h : readPacket buf s e ≡ Accepted p)
+    (b : BodyOf (kindIn (window buf s e)) (messageRule (flagsIn (window buf s e))) (bodyIn (window buf s e)) es) where
+  abbrev w : List ℕ
+  w = window buf s e
+
+  abbrev reported : ℕ → Message
+  reported = messageFor (flagsIn w) (b .shape .stamped) es
+
+  has-count : bodyChecked w ≡ Counted (length es)
+  unfolding bodyChecked
+  has-count = body-of-blocks (kindIn w) (messageRule (flagsIn w)) (bodyIn w) es b .0
+
+  kth-is : (k : ℕ) → k < length es → kthMessage w k ≡ reported k
+  unfolding kthMessage
+  kth-is k more =
+      ap (ahead (bodyAt (flagsIn w))) (body-messages (kindIn w) (messageRule (flagsIn w)) (bodyIn w) es b k more)
+      ∙ ahead-is (flagsIn w) (b .shape .stamped) es k
+
+  bytes-in-buffer : (k : ℕ) → k < length es → part buf (s + reported k .start) (length (getD es k noEntry .bytes)) ≡ getD es k noEntry .bytes
+  bytes-in-buffer k more =
+      let o = accepted-at buf s e p h .opens in
+      let body = bodyAt (flagsIn w) in
+      let d = dataLength w in
+      let n = length (getD es k noEntry .bytes) in
+      let at = 4 + length (blocksBytes (b .shape .stamped) (take k es)) + stampLength (b .shape .stamped) + 4 in
+      let long : length (bodyIn w) ≡ d = length-part w body d (omega (arith, o .sound .parts, o .sound .there)) in
+      let fits : at + n ≤ d = omega (arith, long, block-fits (kindIn w) (messageRule (flagsIn w)) (bodyIn w) es b k more) in
+      let place : s + (body + at) ≡ s + reported k .start = omega arith in
+      let in-window : body + at + n ≤ e - s = omega (arith, fits, o .sound .parts, o .sound .there, o .reach) in
+      ap (λ (x : ℕ). part buf x n) (sym place)
+      ∙ sym (part-part buf s (e - s) (body + at) n in-window)
+      ∙ sym (part-part w body d at n fits)
+      ∙ block-bytes (kindIn w) (messageRule (flagsIn w)) (bodyIn w) es b k more
+
+  pub blocks-reported : Reports buf s e es
+  blocks-reported =
+      record {
+        blocks = b;
+        counted = λ len₁ len₂ room. ap listTold (lists-all buf s e p (length es) h has-count len₁ len₂ room);
+        crowded = λ len₁ len₂ short. ap listTold (lists-none buf s e p (length es) h has-count len₁ len₂ short);
+        listed =
+            λ starts₀ lengths₀ k more room.
+            let all = lists-all buf s e p (length es) h has-count (length starts₀) (length lengths₀) room in (
+              listed-at (length es) (starts w) starts₀ _ k all more ∙ ap (λ (m : Message). m .start) (kth-is k more),
+              listed-at (length es) (lengths w) lengths₀ _ k all more ∙ ap (λ (m : Message). m .length) (kth-is k more),
+            );
+        given = λ k more. ap messageTold (gives-each buf s e p (length es) h has-count k more ∙ ap Given (kth-is k more));
+        missing = λ k past. ap messageTold (gives-no-other buf s e p (length es) h has-count k past);
+        bytes = bytes-in-buffer;
+      }
+
+-- an accepted packet of a type that we open: the messages there, and what each call says of them
+pub messages-there : (buf : List ℕ) (s e : ℕ) (p : Packet) → Bytes buf → readPacket buf s e ≡ Accepted p → opens (kindIn (window buf s e)) ≡ true
+    → (es : List Entry) × Reports buf s e es
+messages-there buf s e p raw h o =
+    let m = accepted-keeps buf s e p raw h .messages o in
+    (m .0, blocks-reported buf s e p (m .0) h (m .1))
+
+-- of any other type: none
+pub carried-none : (buf : List ℕ) (s e : ℕ) (p : Packet) → readPacket buf s e ≡ Accepted p → opens (kindIn (window buf s e)) ≡ false
+    → ((len₁ len₂ : ℕ) → listTold (listPacket buf s e len₁ len₂) ≡ listedTold noRefusal 0)
+    × ((k : ℕ) → messageTold (messagePacket buf s e k) ≡ givenTold (refused 17 s 0) noMessage)
+unfolding bodyChecked
+carried-none buf s e p h o =
+    let w = window buf s e in
+    let none = carried-counted (kindIn w) (messageRule (flagsIn w)) (bodyIn w) o in (
+      λ len₁ len₂. ap listTold (lists-all buf s e p 0 h none len₁ len₂ (omega arith)),
+      λ k. ap messageTold (gives-no-other buf s e p 0 h none k (omega arith)),
+    )

@@ -1,0 +1,229 @@
+-- What the writer writes passes every test of the reader, and reads back as given, whatever stands behind it. Assumes nothing.
+use mathlib.Core.Path.{_≡_, refl, sym, ap, _∙_}
+use mathlib.Core.List.{List, [], _++_, append-assoc, append-nil}
+use Prim.Native.Nat.{ℕ, _+_, _-_, _≤_}
+use native.Mathlib.Omega.{arith}
+use lib.ListN.{length, drop, replicate, length-append, length-replicate}
+use lib.Seq.{take-take, take-length}
+use borrow.Author.Tests.{eq-eqb, le-leb}
+use Rattle.units.specs.Units.{Bytes, part, num, dataSum}
+use Rattle.units.proofs.Numbers.{bytes-append, length-bytesOf, zeros-replicate}
+use Rattle.units.proofs.Parts.{part-at, part-part}
+use Rattle.body.specs.declared.Checked.the-variants.{Counted}
+use Rattle.frame.specs.Header.{channelIn, packetLength, dataLength, versionIn, sequenceIn, flagsIn, kindIn, rtcIn, timeIn, sumCode, sumLength, secondaryLength, bodyAt, fillerFor, secondaryIn, bodyIn, fillerIn, bodyAndFillerIn, dataSumIn, fieldsIn}
+use Rattle.frame.specs.Table.{first, frameLines}
+use Rattle.frame.specs.Inner.{Sound}
+use Rattle.frame.proofs.Frames.{Framed, framed-passes, frame-sound, Lengths, lengths-say, limit-cap, packet-length-front, body-front, fields-front, frame-front, OfFront, own-bytes}
+use Rattle.packet_bytes.specs.Bytes.{headBytes, secondaryBytes, bodyAndFillerBytes, dataBytes, packetBytes}
+use Rattle.packet_bytes.proofs.Puts.{length-head, length-secondary, length-filled}
+use Rattle.packet.specs.Read.{window, packetIn, bodyChecked, readPacket}
+use Rattle.packet.specs.declared.Packet.{Packet}
+use Rattle.packet.specs.declared.PacketRead.the-variants.{Accepted}
+use Rattle.packet.proofs.Answers.{outer-inside, outer-open}
+use Rattle.packet.proofs.Own.{at-accepted, checked-front}
+use Rattle.promises.specs.Contents.{Contents, Typed, packetOf, Accepts, contentsOf}
+use Rattle.promises.proofs.Writer.{Right, lengthIn, length-of, accepts-right}
+use Rattle.promises.proofs.Regions.{head-synced, head-summed, head-channel, head-packet-length, head-data-length, head-version, head-sequence, head-flags, head-kind, head-rtc, head-bytes, secondary-summed, secondary-reserved, secondary-time, secondary-bytes, sumBytes, data-parts, sum-back, data-bytes}
+
+-- ---- the packet's regions
+
+abbrev flagsOf : Contents → ℕ
+flagsOf c = c .fields .flags
+
+abbrev timeOf : Contents → ℕ
+timeOf c = c .fields .time
+
+abbrev headOf : Contents → List ℕ
+headOf c = headBytes (c .fields) (lengthIn c) (length (c .body))
+
+abbrev secondaryOf : Contents → List ℕ
+secondaryOf c = secondaryBytes (flagsOf c) (timeOf c)
+
+abbrev dataOf : Contents → List ℕ
+dataOf c = dataBytes (flagsOf c) (c .body)
+
+abbrev filledOf : Contents → List ℕ
+filledOf c = bodyAndFillerBytes (flagsOf c) (c .body)
+
+abbrev fillerOf : Contents → List ℕ
+fillerOf c = replicate (fillerFor (flagsOf c) (length (c .body))) 0
+
+abbrev sumOf : Contents → List ℕ
+sumOf c = sumBytes (flagsOf c) (c .body)
+
+module _ (c : Contents) where
+  -- where each begins
+  head-length : length (headOf c) ≡ 24
+  head-length = length-head (c .fields) (lengthIn c) (length (c .body))
+
+  before-body : length (headOf c ++ secondaryOf c) ≡ bodyAt (flagsOf c)
+  before-body = omega (arith, length-append (headOf c) (secondaryOf c), head-length, length-secondary (flagsOf c) (timeOf c))
+
+  before-filler : length (headOf c ++ secondaryOf c ++ c .body) ≡ bodyAt (flagsOf c) + length (c .body)
+  before-filler = omega (arith, length-append (headOf c ++ secondaryOf c) (c .body), before-body)
+
+  before-sum : length (headOf c ++ secondaryOf c ++ filledOf c) ≡ lengthIn c - sumLength (flagsOf c)
+  before-sum = omega (arith, length-append (headOf c ++ secondaryOf c) (filledOf c), before-body, length-filled (flagsOf c) (c .body))
+
+  -- what stands before and behind it
+  around-secondary : packetOf c ≡ headOf c ++ (secondaryOf c ++ dataOf c)
+  unfolding packetBytes
+  around-secondary = append-assoc (headOf c) (secondaryOf c) (dataOf c)
+
+  around-body : packetOf c ≡ headOf c ++ secondaryOf c ++ (c .body ++ (fillerOf c ++ sumOf c))
+  unfolding packetBytes
+  around-body = rw (data-parts (flagsOf c) (c .body))
+
+  around-filler : packetOf c ≡ headOf c ++ secondaryOf c ++ c .body ++ (fillerOf c ++ sumOf c)
+  around-filler = around-body ∙ sym (append-assoc (headOf c ++ secondaryOf c) (c .body) (fillerOf c ++ sumOf c))
+
+  around-filled : packetOf c ≡ headOf c ++ secondaryOf c ++ (filledOf c ++ sumOf c)
+  unfolding packetBytes dataBytes
+  around-filled = refl
+
+  around-sum : packetOf c ≡ headOf c ++ secondaryOf c ++ filledOf c ++ (sumOf c ++ [])
+  around-sum = rw append-nil (around-filled ∙ sym (append-assoc (headOf c ++ secondaryOf c) (filledOf c) (sumOf c)))
+
+  pub written-bytes : Typed c → Bytes (packetOf c)
+  written-bytes t =
+      rw around-secondary
+      (bytes-append (headOf c) (secondaryOf c ++ dataOf c) (head-bytes (c .fields) (lengthIn c) (length (c .body)) (t .version) (t .sequence) (t .flags) (t .kind))
+      (bytes-append (secondaryOf c) (dataOf c) (secondary-bytes (flagsOf c) (timeOf c)) (data-bytes (flagsOf c) (c .body) (t .body))))
+
+module _ (c : Contents) (t : Typed c) (r : Right c) where
+  -- ---- the header's numbers
+
+  lengths : Lengths (c .fields .kind) (flagsOf c) (lengthIn c) (length (c .body))
+  lengths = lengths-say (c .fields .kind) (flagsOf c) (lengthIn c) (length (c .body)) (r .values .lengthsOk)
+
+  capped : lengthIn c ≤ 134217728
+  capped = omega (arith, lengths .within, limit-cap (c .fields .kind))
+
+  channel-back : channelIn (packetOf c) ≡ c .fields .channel
+  channel-back = rw (around-secondary c) (head-channel (c .fields) (lengthIn c) (length (c .body)) (secondaryOf c ++ dataOf c) (t .channel))
+
+  pub written-length : packetLength (packetOf c) ≡ lengthIn c
+  written-length = rw (around-secondary c) (head-packet-length (c .fields) (lengthIn c) (length (c .body)) (secondaryOf c ++ dataOf c) (omega (arith, capped)))
+
+  pub written-data-length : dataLength (packetOf c) ≡ length (c .body)
+  written-data-length = rw (around-secondary c) (head-data-length (c .fields) (lengthIn c) (length (c .body)) (secondaryOf c ++ dataOf c) (omega (arith, capped)))
+
+  version-back : versionIn (packetOf c) ≡ c .fields .version
+  version-back = rw (around-secondary c) (head-version (c .fields) (lengthIn c) (length (c .body)) (secondaryOf c ++ dataOf c))
+
+  sequence-back : sequenceIn (packetOf c) ≡ c .fields .sequence
+  sequence-back = rw (around-secondary c) (head-sequence (c .fields) (lengthIn c) (length (c .body)) (secondaryOf c ++ dataOf c))
+
+  flags-back : flagsIn (packetOf c) ≡ flagsOf c
+  flags-back = rw (around-secondary c) (head-flags (c .fields) (lengthIn c) (length (c .body)) (secondaryOf c ++ dataOf c))
+
+  kind-back : kindIn (packetOf c) ≡ c .fields .kind
+  kind-back = rw (around-secondary c) (head-kind (c .fields) (lengthIn c) (length (c .body)) (secondaryOf c ++ dataOf c))
+
+  rtc-back : rtcIn (packetOf c) ≡ c .fields .rtc
+  rtc-back = rw (around-secondary c) (head-rtc (c .fields) (lengthIn c) (length (c .body)) (secondaryOf c ++ dataOf c) (r .rtc))
+
+  -- ---- the parts behind it
+
+  secondary-back : secondaryIn (packetOf c) ≡ secondaryOf c
+  secondary-back =
+      rw flags-back
+      (part-at (packetOf c) (headOf c) (secondaryOf c) (dataOf c) 24 (secondaryLength (flagsOf c)) (around-secondary c) (head-length c)
+      (length-secondary (flagsOf c) (timeOf c)))
+
+  time-back : timeIn (packetOf c) ≡ timeOf c
+  time-back = rw secondary-back (secondary-time (flagsOf c) (timeOf c) (t .time) (r .absent))
+
+  pub written-body : bodyIn (packetOf c) ≡ c .body
+  written-body =
+      rw (flags-back, written-data-length)
+      (part-at (packetOf c) (headOf c ++ secondaryOf c) (c .body) (fillerOf c ++ sumOf c) _ _ (around-body c) (before-body c) refl)
+
+  filler-back : fillerIn (packetOf c) ≡ fillerOf c
+  filler-back =
+      let g = fillerFor (flagsOf c) (length (c .body)) in
+      let n : lengthIn c - sumLength (flagsOf c) - (bodyAt (flagsOf c) + length (c .body)) ≡ g = omega arith in
+      rw (flags-back, written-data-length, written-length, n)
+      (part-at (packetOf c) (headOf c ++ secondaryOf c ++ c .body) (fillerOf c) (sumOf c) _ g (around-filler c) (before-filler c) (length-replicate {A = ℕ} g 0))
+
+  filled-back : bodyAndFillerIn (packetOf c) ≡ filledOf c
+  filled-back =
+      let n : lengthIn c - sumLength (flagsOf c) - bodyAt (flagsOf c) ≡ length (c .body) + fillerFor (flagsOf c) (length (c .body)) = omega arith in
+      rw (flags-back, written-length, n)
+      (part-at (packetOf c) (headOf c ++ secondaryOf c) (filledOf c) (sumOf c) _ _ (around-filled c) (before-body c) (length-filled (flagsOf c) (c .body)))
+
+  data-sum-back : dataSumIn (packetOf c) ≡ dataSum (sumCode (flagsOf c)) (filledOf c)
+  data-sum-back =
+      rw (flags-back, written-length)
+      (ap num
+      (part-at (packetOf c) (headOf c ++ secondaryOf c ++ filledOf c) (sumOf c) [] _ _ (around-sum c) (before-sum c) (length-bytesOf (sumLength (flagsOf c)) _))
+      ∙ sum-back (flagsOf c) (c .body))
+
+  -- ---- what the reader finds
+
+  pub written-fields : fieldsIn (packetOf c) ≡ c .fields
+  unfolding fieldsIn
+  written-fields = λ i. record {
+    channel = channel-back i;
+    version = version-back i;
+    sequence = sequence-back i;
+    flags = flags-back i;
+    kind = kind-back i;
+    rtc = rtc-back i;
+    time = time-back i;
+  }
+
+  -- 2 to 14
+  pub written-framed : Framed (packetOf c)
+  written-framed =
+      let behind = secondaryOf c ++ dataOf c in
+      let sum = dataSum (sumCode (flagsOf c)) (filledOf c) in
+      record {
+        enough = le-leb 24 (length (packetOf c)) (omega (arith, length-of c, lengths .parts));
+        synced = rw (around-secondary c) (head-synced (c .fields) (lengthIn c) (length (c .body)) behind);
+        headerSummed = rw (around-secondary c) (head-summed (c .fields) (lengthIn c) (length (c .body)) behind);
+        values = rw (channel-back, version-back, flags-back, kind-back, written-length, written-data-length) (r .values);
+        whole = le-leb (packetLength (packetOf c)) (length (packetOf c)) (omega (arith, written-length, length-of c));
+        secondarySummed = rw secondary-back (secondary-summed (flagsOf c) (timeOf c));
+        secondaryOk = rw (time-back, secondary-back, flags-back, secondary-reserved (flagsOf c) (timeOf c)) (r .time);
+        dataSummed = rw (filled-back, data-sum-back, flags-back) (eq-eqb sum sum refl);
+        fillerOk = rw filler-back (zeros-replicate (fillerFor (flagsOf c) (length (c .body))));
+      }
+
+  -- 15
+  pub written-checked : bodyChecked (packetOf c) ≡ Counted (r .count)
+  unfolding bodyChecked
+  written-checked = rw (written-body, kind-back, flags-back) (r .body)
+
+  pub written-sound : Sound (packetOf c)
+  written-sound = frame-sound (packetOf c) (framed-passes (packetOf c) written-framed)
+
+-- ---- read again, in a window that begins with it
+
+module _ (c : Contents) (a : Accepts c) (buf : List ℕ) (s e : ℕ) (within : e ≤ length buf) (fits : s + length (packetOf c) ≤ e)
+    (same : part buf s (length (packetOf c)) ≡ packetOf c) where
+  -- what is said of a packet alone is said of the window
+  said : {A : Type 0} (what : List ℕ → A) → OfFront what → what (window buf s e) ≡ what (packetOf c)
+  said what front =
+      let r = accepts-right c a in
+      let n : packetLength (packetOf c) ≡ length (packetOf c) = written-length c (a .typed) r ∙ sym (length-of c) in
+      own-bytes what front (packetOf c) (window buf s e) (written-sound c (a .typed) r)
+      (rw n (take-take (length (packetOf c)) (e - s) (drop s buf) (omega arith) ∙ same ∙ sym (take-length (packetOf c))))
+
+  pub read-written : (p : Packet) × (readPacket buf s e ≡ Accepted p) × (contentsOf buf p ≡ c) × (p .length ≡ length (packetOf c))
+  unfolding packetIn
+  read-written =
+      let r = accepts-right c a in
+      let w = window buf s e in
+      let framed : first (frameLines w) ≡ 0 = ap first (said frameLines frame-front) ∙ framed-passes (packetOf c) (written-framed c (a .typed) r) in
+      let opens = outer-open buf s e (sym (outer-inside buf s e 0 (omega arith) within (sym framed))) in
+      let fields : fieldsIn w ≡ c .fields = said fieldsIn fields-front ∙ written-fields c (a .typed) r in
+      let place : bodyAt (flagsIn w) + dataLength w ≤ e - s = omega (arith, opens .sound .parts, opens .sound .there, opens .reach) in
+      let body : part buf (s + bodyAt (flagsIn w)) (dataLength w) ≡ c .body =
+      sym (part-part buf s (e - s) (bodyAt (flagsIn w)) (dataLength w) place) ∙ said bodyIn body-front ∙ written-body c (a .typed) r in (
+        packetIn w s,
+        at-accepted buf s e (packetIn w s)
+            (record { opens = opens; count = r .count; body = said bodyChecked checked-front ∙ written-checked c (a .typed) r; packet = refl }),
+        (λ i. record { fields = fields i; body = body i }),
+        said packetLength packet-length-front ∙ written-length c (a .typed) r ∙ sym (length-of c),
+      )

@@ -1,0 +1,45 @@
+-- Packets altered in a single unit (demand 3).
+use mathlib.Core.Path.{_≡_}
+use mathlib.Core.List.{List, [], _∷_, _++_}
+use mathlib.Core.Logic.{_⊎_, _≢_}
+use Prim.Native.Nat.{ℕ, suc, _+_, _*_, _≤_, _<_}
+use lib.ListN.{length}
+use Rattle.units.specs.Units.{Bytes}
+use Rattle.frame.specs.Header.{byte, sumLength, secondaryLength, bodyAt}
+use Rattle.promises.specs.Contents.{Contents, packetOf, Accepts}
+
+abbrev pub flagsOf : Contents → ℕ
+flagsOf c = c .fields .flags
+
+-- the units that the demand names in the packet of c: the refusal that each is to give, its place and its width
+pub data UnitOf (c : Contents) : ℕ → ℕ → ℕ → Type 0 where
+  -- the sync word
+  sync : UnitOf c 3 0 2
+  -- another 16-bit word of its primary header of 24 bytes, the sum too
+  primary : (j : ℕ) → 0 < j → 2 * j + 2 ≤ 24 → UnitOf c 4 (2 * j) 2
+  -- one 16-bit word of its secondary header, if it has one, the sum too
+  secondary : (j : ℕ) → 2 * j + 2 ≤ secondaryLength (flagsOf c) → UnitOf c 11 (24 + 2 * j) 2
+  -- if it carries a data sum, one aligned unit of that sum's width in body, filler or sum, counted from the body's first byte
+  trailer : (j : ℕ) → 0 < sumLength (flagsOf c) → bodyAt (flagsOf c) + sumLength (flagsOf c) * j + sumLength (flagsOf c) ≤ length (packetOf c)
+      → UnitOf c 13 (bodyAt (flagsOf c) + sumLength (flagsOf c) * j) (sumLength (flagsOf c))
+
+-- ys is xs with some of the n bytes at `at` altered, and no other
+pub record AlteredAt (at n : ℕ) (xs ys : List ℕ) : Type 0 where
+  pub long : length ys ≡ length xs
+  pub bytes : Bytes ys
+  pub same : (i : ℕ) → (i < at) ⊎ (at + n ≤ i) → byte ys i ≡ byte xs i
+  pub differs : ys ≢ xs
+
+-- ys is the packet of c altered in a single unit, whose refusal is to be n
+pub record Altered (c : Contents) (n : ℕ) (ys : List ℕ) : Type 0 where
+  pub place : ℕ
+  pub width : ℕ
+  pub unit : UnitOf c n place width
+  pub change : AlteredAt place width (packetOf c) ys
+
+-- contents that the writer accepts, written end to end, each packet left as it is or altered in a single unit; k of them are altered
+pub data Pieces : List Contents → ℕ → List ℕ → Type 0 where
+  none : Pieces [] 0 []
+  kept : {c : Contents} {cs : List Contents} {k : ℕ} {bs : List ℕ} → Accepts c → Pieces cs k bs → Pieces (c ∷ cs) k (packetOf c ++ bs)
+  altered : {c : Contents} {n : ℕ} {ys : List ℕ} {cs : List Contents} {k : ℕ} {bs : List ℕ} → Accepts c → Altered c n ys → Pieces cs k bs
+      → Pieces (c ∷ cs) (suc k) (ys ++ bs)

@@ -1,0 +1,115 @@
+-- The starred cases of document 01, "Both sides of the line", over a single list.
+use mathlib.Core.Path.{_≡_}
+use mathlib.Core.List.{List, [], _∷_, _++_}
+use Prim.Native.Nat.{ℕ, _+_, _*_, _^_}
+use lib.ListN.{length, take, set, replicate}
+use Rattle.units.specs.Units.{field}
+use Rattle.body.specs.Walk.{refused}
+use Rattle.frame.specs.Header.{secondaryIn}
+use Rattle.frame.specs.declared.Fields.{Fields}
+use Rattle.packet.specs.Read.{partAt, readPacket, noRefusal, noPacket, Told, told}
+use Rattle.packet.specs.Write.{writePacket, WriteTold, writeTold}
+use Rattle.promises.specs.Contents.{Contents, packetOf, written}
+
+-- a case: bytes, a window of their own, and what the reader tells; contents, an output of `room` bytes, and what the writer tells;
+-- or bytes and the sum in their secondary header
+pub data Case : Type 0 where
+  reads : List ℕ → Told → Case
+  writes : Contents → ℕ → WriteTold → Case
+  secondarySum : List ℕ → ℕ → Case
+
+abbrev pub Right : Case → Type 0
+Right (reads bytes t) = told (readPacket bytes 0 (length bytes)) ≡ t
+Right (writes c room t) = writeTold (writePacket (c .fields) (c .body) room) ≡ t
+Right (secondarySum bytes sum) = field (secondaryIn bytes) 10 2 ≡ sum
+
+abbrev pub AllRight : List Case → Type 0
+AllRight [] = Unit {0}
+AllRight (x ∷ xs) = Right x × AllRight xs
+
+-- ---- case L
+
+unfoldable pub L : List ℕ
+L =
+    0x25 ∷ 0xEB ∷ 0x01 ∷ 0x00 ∷ 0x28 ∷ 0x00 ∷ 0x00 ∷ 0x00 ∷ 0x0C ∷ 0x00 ∷ 0x00 ∷ 0x00 ∷ 0x06 ∷ 0x00 ∷ 0x02 ∷ 0x50 ∷ 0x01 ∷ 0x00 ∷ 0x00 ∷ 0x00
+    ∷ 0x00 ∷ 0x00 ∷ 0x63 ∷ 0x3B ∷ 0x00 ∷ 0x00 ∷ 0x00 ∷ 0x00 ∷ 0x03 ∷ 0x00 ∷ 0x00 ∷ 0x00 ∷ 0x41 ∷ 0x42 ∷ 0x43 ∷ 0x00 ∷ 0x00 ∷ 0x00 ∷ 0x87 ∷ 0x42 ∷ []
+
+-- its contents, with these flags and this secondary time; L's own are 2 (a 16-bit sum) and 0
+unfoldable pub lContents : ℕ → ℕ → Contents
+lContents flags time =
+    record {
+      fields = record { channel = 1; version = 6; sequence = 0; flags = flags; kind = 0x50; rtc = 1; time = time };
+      body = 0x00 ∷ 0x00 ∷ 0x00 ∷ 0x00 ∷ 0x03 ∷ 0x00 ∷ 0x00 ∷ 0x00 ∷ 0x41 ∷ 0x42 ∷ 0x43 ∷ 0x00 ∷ [];
+    }
+
+-- what is told of their packet: P, the header sum, the lengths of secondary header, filler and sum, and the data sum
+abbrev accepted : ℕ → ℕ → ℕ → ℕ → ℕ → ℕ → ℕ → ℕ → Told
+accepted flags time p headsum secondary filler width datasum =
+    record {
+      refusal = noRefusal;
+      packet =
+          record {
+            fields = lContents flags time .fields;
+            length = p;
+            datalength = 12;
+            headsum = headsum;
+            datasum = datasum;
+            header = partAt 0 24;
+            secondary = partAt 24 secondary;
+            body = partAt (24 + secondary) 12;
+            filler = partAt (36 + secondary) filler;
+            sum = partAt (36 + secondary + filler) width;
+          };
+    }
+
+-- a refusal at the packet's start, 0
+abbrev refuses : ℕ → Told
+refuses number = record { refusal = refused number 0 0; packet = noPacket }
+
+-- flags of a secondary header with an IEEE 1588 time and no data sum; a time of 1 second and some nanoseconds
+abbrev pub ieee1588 : ℕ
+ieee1588 = 0x84
+
+abbrev pub second : ℕ → ℕ
+second nanoseconds = 1 * 2 ^ 32 + nanoseconds
+
+unfoldable pub cases : List Case
+cases =
+    -- L accepted; its first 39 bytes: 10; first 23: 2; empty window: 2
+    reads L (accepted 2 0 40 0x3B63 0 2 2 17031)
+    ∷ reads (take 39 L) (refuses 10)
+    ∷ reads (take 23 L) (refuses 2)
+    ∷ reads [] (refuses 2)
+    -- L with byte 0 = 0x24: 3; with byte 13 = 1 and nothing else: 4; with byte 32 = 0x40: 13
+    ∷ reads (set L 0 0x24) (refuses 3)
+    ∷ reads (set L 13 1) (refuses 4)
+    ∷ reads (set L 32 0x40) (refuses 13)
+    -- L's body under an 8-bit sum: filler 3, sum 0xC9, P 40
+    ∷ reads (packetOf (lContents 1 0)) (accepted 1 0 40 0x3B62 0 3 1 0xC9)
+    -- under 32 bits: filler 0, sum 0x00434244, P 40
+    ∷ reads (packetOf (lContents 3 0)) (accepted 3 0 40 0x3B64 0 0 4 0x00434244)
+    -- without: P 36
+    ∷ reads (packetOf (lContents 0 0)) (accepted 0 0 36 0x3B5D 0 0 0 0)
+    -- 1588 time of 1 s and 2 ns: secondary sum 3
+    ∷ secondarySum (packetOf (lContents ieee1588 (second 2))) 3
+    ∷ reads (packetOf (lContents ieee1588 (second 2))) (accepted ieee1588 (second 2) 48 0x3BED 12 0 0 0)
+    -- 999,999,999 ns is accepted, 1,000,000,000 is 12; by the writer too
+    ∷ reads (packetOf (lContents ieee1588 (second 999999999))) (accepted ieee1588 (second 999999999) 48 0x3BED 12 0 0 0)
+    ∷ reads (packetOf (lContents ieee1588 (second 1000000000))) (refuses 12)
+    ∷ writes (lContents ieee1588 (second 999999999)) 48 (record { refusal = noRefusal; length = 48 })
+    ∷ writes (lContents ieee1588 (second 1000000000)) 48 (record { refusal = refused 12 0 0; length = 0 })
+    ∷ []
+
+-- ---- a recording of three different packets
+
+-- one byte of a type that is carried, under a 32-bit sum
+unfoldable pub carriedByte : Contents
+carriedByte = record { fields = record { channel = 7; version = 1; sequence = 255; flags = 3; kind = 0x40; rtc = 2; time = 0 }; body = 0xAA ∷ [] }
+
+-- L, L's body under a secondary header, and that byte
+unfoldable pub three : List Contents
+three = lContents 2 0 ∷ lContents ieee1588 (second 2) ∷ carriedByte ∷ []
+
+-- from byte 5 to byte 125 of a buffer with other bytes ahead of them and behind
+unfoldable pub threeIn : List ℕ
+threeIn = replicate 5 0xFF ++ (written three ++ replicate 9 0x25)

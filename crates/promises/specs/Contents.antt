@@ -1,0 +1,49 @@
+-- Contents that the writer accepts, written end to end, and the contents of what is read.
+use mathlib.Core.Path.{_≡_}
+use mathlib.Core.List.{List, [], _∷_, _++_}
+use Prim.Native.Nat.{ℕ, _^_, _<_}
+use lib.ListN.{length}
+use Rattle.units.specs.Units.{Bytes, part}
+use Rattle.frame.specs.declared.Fields.{Fields}
+use Rattle.packet_bytes.specs.Bytes.{packetBytes}
+use Rattle.packet.specs.Write.{writePacket, writeTold}
+use Rattle.packet.specs.declared.Packet.{Packet}
+
+-- what a writer is given but for the output
+pub record Contents : Type 0 where
+  pub fields : Fields
+  pub body : List ℕ
+
+-- each is of the type that the call takes: channel u16; version, sequence, flags and type u8; RTC and time u64; the body bytes
+pub record Typed (c : Contents) : Type 0 where
+  pub channel : c .fields .channel < 2 ^ 16
+  pub version : c .fields .version < 2 ^ 8
+  pub sequence : c .fields .sequence < 2 ^ 8
+  pub flags : c .fields .flags < 2 ^ 8
+  pub kind : c .fields .kind < 2 ^ 8
+  pub rtc : c .fields .rtc < 2 ^ 64
+  pub time : c .fields .time < 2 ^ 64
+  pub body : Bytes (c .body)
+
+-- the packet's bytes
+abbrev pub packetOf : Contents → List ℕ
+packetOf c = packetBytes (c .fields) (c .body)
+
+-- the writer accepts: into an output of the packet's length it writes
+pub record Accepts (c : Contents) : Type 0 where
+  pub typed : Typed c
+  pub written : writeTold (writePacket (c .fields) (c .body) (length (packetOf c))) .refusal .number ≡ 0
+
+-- any list of contents the writer accepts
+pub data AllAccepted : List Contents → Type 0 where
+  nil : AllAccepted []
+  cons : {c : Contents} {cs : List Contents} → Accepts c → AllAccepted cs → AllAccepted (c ∷ cs)
+
+-- written end to end
+unfoldable pub written : List Contents → List ℕ
+written [] = []
+written (c ∷ cs) = packetOf c ++ written cs
+
+-- the contents of a packet that a reader tells of, in its buffer
+abbrev pub contentsOf : List ℕ → Packet → Contents
+contentsOf buf p = record { fields = p .fields; body = part buf (p .body .at) (p .body .length) }

@@ -1,0 +1,42 @@
+-- How a call may end (demand 1): with what was asked for and no refusal, or with one refusal and nothing else.
+use mathlib.Core.Path.{_≡_}
+use mathlib.Core.List.{List}
+use mathlib.Core.Logic.{_⊎_}
+use Prim.Native.Nat.{ℕ, _+_, _≤_, _<_}
+use Rattle.body.specs.declared.Refusal.{Refusal}
+use Rattle.body.specs.declared.Message.{Message}
+use Rattle.frame.specs.Header.{flagsIn, dataLength, bodyAt}
+use Rattle.packet.specs.Read.{window, noRefusal, Told}
+use Rattle.packet.specs.Messages.{ListTold, MessageTold}
+use Rattle.packet.specs.Write.{WriteTold}
+use Rattle.packet.specs.declared.Packet.{Packet}
+
+-- a refusal of the table's, numbered 1 to `most`
+abbrev pub FromTable : ℕ → Refusal → Type 0
+FromTable most r = (1 ≤ r .number) × (r .number ≤ most)
+
+-- what is told is some value and no refusal, or the value `nothing` and a refusal of the table's
+abbrev pub Ends : {Value Telling : Type 0} → ℕ → (Refusal → Value → Telling) → Value → Telling → Type 0
+Ends {Value} {Telling} most tell nothing t =
+    ((v : Value) × (t ≡ tell noRefusal v)) ⊎ ((r : Refusal) × (t ≡ tell r nothing) × FromTable most r)
+
+-- a refusal and a value, as each call tells them
+abbrev pub readTold : Refusal → Packet → Told
+readTold r p = record { refusal = r; packet = p }
+
+abbrev pub listedTold : Refusal → ℕ → ListTold
+listedTold r n = record { refusal = r; count = n }
+
+abbrev pub givenTold : Refusal → Message → MessageTold
+givenTold r m = record { refusal = r; message = m }
+
+abbrev pub writtenTold : Refusal → ℕ → WriteTold
+writtenTold r n = record { refusal = r; length = n }
+
+-- where the reader's refusals are placed: 1 to 14 at the start, 15 in the packet's body or right behind it; none gives room
+pub record Placed (buf : List ℕ) (start end : ℕ) (r : Refusal) : Type 0 where
+  pub room : r .room ≡ 0
+  pub outer : r .number < 15 → r .place ≡ start
+  pub inner : r .number ≡ 15
+      → (start + bodyAt (flagsIn (window buf start end)) ≤ r .place)
+      × (r .place ≤ start + bodyAt (flagsIn (window buf start end)) + dataLength (window buf start end))

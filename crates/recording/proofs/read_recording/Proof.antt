@@ -1,0 +1,79 @@
+use borrow.Author.Tests.{ltb-true, ltb-false}
+use mathlib.Core.Path.{sym, _∙_}
+use mathlib.Core.Logic.{⊎-elim}
+use Rattle.packet.proofs.Own.{fits}
+use Prim.Native.Nat.{_-_}
+use native.Mathlib.Omega.{arith}
+use Rattle.recording.proofs.Readings.{Counting, outside-disordered, outside-past, recording-outside, counting-first, counting-on, counting-stops, counting-end}
+use borrow.Author.Needs.{needs}
+use Rattle.recording.proofs.read_recording.Statement.{statement}
+use Rattle.recording.proofs.read_recording.Tie as tie
+
+abbrev Inv-loop : tie.InvT-loop
+Inv-loop buf start end accepted₀ at₀ accepted at = Counting buf start end accepted at
+
+abbrev μ-loop : tie.MeasureT-loop
+μ-loop buf start end accepted₀ at₀ accepted at = end - at
+
+returns : tie.Need-returns Inv-loop μ-loop
+returns c =
+    let a = c .before .before .before .args in
+    recording-outside (a .buf .now) (a .start) (a .end) _
+    (⊎-elim (λ w. outside-disordered (a .buf .now) (a .start) (a .end) (w .taken))
+    (λ w. outside-past (a .buf .now) (a .start) (a .end) (w .0 .left) (ltb-true _ _ (w .1 .taken))) (c .before .if1 .came))
+    (c .refuse .ensures)
+
+loop-holds : tie.Need-loop-holds Inv-loop μ-loop
+loop-holds c = counting-first _ _ _ (c .before .if1 .left) (ltb-false _ _ (c .if2 .left))
+
+add-at : tie.Need-add-at Inv-loop μ-loop
+add-at c =
+    let after-read = c .before .before .before .before in
+    let g = c .before .before .packet .given in
+    let k = fits _ _ _ (g .0 .0) (sym (after-read .read-packet .ensures) ∙ g .1) in
+    omega (arith, after-read .before .before .before .before .before .before .fits)
+
+loop-less : tie.Need-loop-less Inv-loop μ-loop
+loop-less c =
+    let after-read = c .before .before .before .before in
+    let g = c .before .before .packet .given in
+    let k = fits _ _ _ (g .0 .0) (sym (after-read .read-packet .ensures) ∙ g .1) in
+    omega arith
+
+loop-again : tie.Need-loop-again Inv-loop μ-loop
+loop-again c =
+    let after-read = c .before .before .before .before in
+    let g = c .before .before .packet .given in
+    counting-on _ _ _ _ _ (after-read .before .before .loop .inv) (g .0 .0) (after-read .before .loop-test .taken)
+    (sym (after-read .read-packet .ensures) ∙ g .1)
+
+returns-2 : tie.Need-returns-2 Inv-loop μ-loop
+returns-2 c =
+    let after-read = c .before .before .before in
+    let g = c .before .refusal .given in
+    counting-stops _ _ _ _ _ (after-read .before .before .loop .inv) (g .0 .0) (after-read .before .loop-test .taken)
+    (sym (after-read .read-packet .ensures) ∙ g .1)
+
+returns-3 : tie.Need-returns-3 Inv-loop μ-loop
+returns-3 c = counting-end _ _ _ _ _ (c .before .before .loop .inv) _ (c .before .loop-test .left) (c .refuse2 .ensures)
+
+pub read-recording-spec : {M : Type 1} → statement M
+read-recording-spec =
+    tie.close
+    (tie.spec
+    Inv-loop
+    μ-loop
+    (λ c κs. search needs)
+    returns
+    loop-holds
+    (λ c κs. search needs)
+    (λ c. search needs)
+    (λ c. search needs)
+    (λ c. search needs)
+    add-at
+    loop-less
+    loop-again
+    (λ c. search needs)
+    returns-2
+    (λ c κs. search needs)
+    returns-3)

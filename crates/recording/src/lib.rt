@@ -1,0 +1,51 @@
+// A whole recording: packets one behind the other in a window.
+ghost use mathlib.Core.Path.{_≡_};
+ghost use Rattle.recording.specs.Reading.{readRecording};
+use body::Refusal;
+use body::refuse;
+use packet::PacketRead;
+use packet::read_packet;
+
+// What the reading of a recording gives, never zeroed: the number of packets accepted, the place reached (the first byte of the
+// refused packet, or the end), and the refusal as the one-packet reader gave it, with its own place; all 0 at the exact end.
+pub struct Recording {
+    pub accepted: usize,
+    pub reached: usize,
+    pub refusal: Refusal,
+}
+
+// Reads the packets of a window from its start, each at the end of the one before; the first that is refused ends the reading.
+// A window outside its buffer: none, the start, and refusal 1 there. An empty window in its buffer: none, the start, no refusal.
+pub fn read_recording(buf: &[u8], start: usize, end: usize) -> Recording
+    ensures { λ r. ⌜ r ≡ readRecording (now (buf .entry)) start end ⌝ }
+{
+    if end < start || buf.len() < end {
+        return Recording {
+            accepted: 0,
+            reached: start,
+            refusal: refuse(1, start, 0),
+        };
+    }
+    let mut accepted = 0;
+    let mut at = start;
+    while at < end {
+        match read_packet(buf, at, end) {
+            PacketRead::Accepted(packet) => {
+                accepted = accepted + 1;
+                at = at + packet.length as usize;
+            }
+            PacketRead::Refused(refusal) => {
+                return Recording {
+                    accepted,
+                    reached: at,
+                    refusal,
+                };
+            }
+        }
+    }
+    Recording {
+        accepted,
+        reached: at,
+        refusal: refuse(0, 0, 0),
+    }
+}
