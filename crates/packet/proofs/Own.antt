@@ -19,9 +19,9 @@ use Rattle.frame.specs.Table.{first, frameLines}
 use Rattle.frame.specs.Inner.{Sound}
 use Rattle.frame.proofs.Frames.{flags-front, kind-front, packet-length-front, data-length-front, head-sum-front, filler-at-front, sum-at-front, body-front, data-sum-front, fields-front, frame-front, OfFront, own-bytes}
 use Rattle.packet.proofs.Answers.{outer-inside, Open, outer-open}
-use Rattle.packet.proofs.Window.{entries, entries-told}
-use Rattle.packet.specs.Read.{window, outerRefusal, packetIn, bodyChecked, bodyAnswer, readPacket}
-use Rattle.packet.specs.Messages.{messageCount, kthMessage, listPacket, starts, lengths, messagePacket}
+use Rattle.packet.proofs.Window.{entries-told}
+use Rattle.packet.specs.Read.{window, outerRefusal, packetIn, bodyChecked, bodyAnswer, readPacket, Together}
+use Rattle.packet.specs.Messages.{messageCount, kthMessage, listPacket, starts, lengths, messagePacket, entries}
 use Rattle.packet.specs.declared.Packet.{Packet}
 use Rattle.packet.specs.declared.PacketRead.the-variants.{Accepted, Refused}
 
@@ -167,15 +167,6 @@ module _ (a b : List ℕ) (s e f : ℕ) (p : Packet) (h : readPacket a s e ≡ A
   )
 
 -- ---- the parts of an accepted packet
-
--- they stand one behind the other and together make up P
-pub record Together (at : ℕ) (p : Packet) : Type 0 where
-  pub header : p .header .at ≡ at
-  pub secondary : p .secondary .at ≡ p .header .at + p .header .length
-  pub body : p .body .at ≡ p .secondary .at + p .secondary .length
-  pub filler : p .filler .at ≡ p .body .at + p .body .length
-  pub sum : p .sum .at ≡ p .filler .at + p .filler .length
-  pub all : p .header .length + p .secondary .length + p .body .length + p .filler .length + p .sum .length ≡ p .length
 
 sound-together : (w : List ℕ) (at : ℕ) → Sound w → Together at (packetIn w at)
 unfolding packetIn

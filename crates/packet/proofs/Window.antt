@@ -4,7 +4,7 @@ use mathlib.Core.List.{List}
 use mathlib.Core.Bool.{Bool, true, false}
 use Prim.Native.Nat.{ℕ, _≤_, min}
 use native.Mathlib.Omega.{arith}
-use lib.ListN.{length, take, drop, length-append, length-drop}
+use lib.ListN.{length, drop, length-append, length-drop}
 use lib.Seq.{take-at, drop-at}
 use lib.Dec.{ltb}
 use borrow.Author.Tests.{le-leb, ltb-false}
@@ -13,17 +13,13 @@ use Rattle.body.specs.Walk.{refused}
 use Rattle.body.specs.Answers.{tab, filled}
 use Rattle.body.proofs.Reading.{length-tab}
 use Rattle.packet.specs.Read.{window, outerLines, outerRefusal, readPacket}
-use Rattle.packet.specs.Messages.{messageCount, listAnswer, listPacket, listAfter, starts, lengths, messagePacket, listTold}
+use Rattle.packet.specs.Messages.{messageCount, listAnswer, listPacket, listAfter, starts, lengths, messagePacket, listTold, entries}
 use Rattle.packet.specs.declared.PacketRead.{PacketRead}
 use Rattle.packet.specs.declared.PacketRead.the-variants.{Accepted, Refused}
 use Rattle.packet.specs.declared.PacketList.{PacketList}
 use Rattle.packet.specs.declared.PacketList.the-variants.{Listed, Unlisted}
 
 -- ---- the lists
-
--- the entries told: as many of a list that came back as the answer counts
-abbrev pub entries : PacketList → (ℕ → ℕ) → List ℕ → List ℕ
-entries r values old = take (listTold r .count) (listAfter r values old)
 
 -- what a list held before has no say in them
 pub entries-told : (r : PacketList) (values : ℕ → ℕ) (old old′ : List ℕ) → entries r values old ≡ entries r values old′

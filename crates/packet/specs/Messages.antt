@@ -1,7 +1,7 @@
 -- The lister, and one message by its number (document 01, "Lister"): after the reader's tests.
 use mathlib.Core.List.{List}
 use Prim.Native.Nat.{ℕ, _+_, min}
-use lib.ListN.{length}
+use lib.ListN.{length, take}
 use lib.Dec.{leb, ltb}
 use Rattle.units.specs.Choice.{pick}
 use Rattle.body.specs.Walk.{refused}
@@ -83,6 +83,10 @@ pub record ListTold : Type 0 where
 abbrev pub listTold : PacketList → ListTold
 listTold (Listed n) = record { refusal = noRefusal; count = n }
 listTold (Unlisted r) = record { refusal = r; count = 0 }
+
+-- the entries told: as many of a list that came back as the answer counts
+abbrev pub entries : PacketList → (ℕ → ℕ) → List ℕ → List ℕ
+entries r values old = take (listTold r .count) (listAfter r values old)
 
 pub record MessageTold : Type 0 where
   pub refusal : Refusal

@@ -1,4 +1,5 @@
 -- The one-packet reader (document 01, "The window" and "What each call says no to").
+use mathlib.Core.Path.{_≡_}
 use mathlib.Core.List.{List, _∷_}
 use mathlib.Core.Bool.{Bool, not, _&&_}
 use Prim.Native.Nat.{ℕ, _+_, _-_}
@@ -57,6 +58,15 @@ packetIn w at =
       filler = partAt (at + fillerAt w) (fillerLength w);
       sum = partAt (at + sumAt w) (sumLength (flagsIn w));
     }
+
+-- the parts of an accepted packet stand one behind the other and together make up P
+pub record Together (at : ℕ) (p : Packet) : Type 0 where
+  pub header : p .header .at ≡ at
+  pub secondary : p .secondary .at ≡ p .header .at + p .header .length
+  pub body : p .body .at ≡ p .secondary .at + p .secondary .length
+  pub filler : p .filler .at ≡ p .body .at + p .body .length
+  pub sum : p .sum .at ≡ p .filler .at + p .filler .length
+  pub all : p .header .length + p .secondary .length + p .body .length + p .filler .length + p .sum .length ≡ p .length
 
 -- ---- the answer
 

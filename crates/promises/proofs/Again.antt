@@ -6,7 +6,7 @@ use Prim.Native.Nat.{ℕ, zero, suc, _+_, _-_, _*_, _%_, _^_, _≤_, _<_}
 use native.Mathlib.Omega.{arith}
 use native.Mathlib.Nat.{pow-le-pow-right, lt-of-lt-of-le, zero-lt-suc}
 use lib.ListN.{length, take, drop, getD, replicate, length-take, take-append-drop}
-use lib.Seq.{length-take-le, drop-cons, take-take, take-add, drop-drop, take-all}
+use lib.Seq.{length-take-le, drop-cons, take-take, take-add, take-all}
 use lib.Dec.{eqb}
 use borrow.Author.Tests.{eqb-true, eqb-false}
 use Rattle.units.specs.Units.{Bytes, part, num, field, bytesOf, sumUnits, checksum, summed, secondarySum, dataSum}

@@ -1,12 +1,12 @@
 -- A packet that the writer accepts, altered in a single unit, is refused with the number that names it, whatever stands behind it;
 -- and no byte that the demand speaks of is in none of the units. Assumes nothing.
 use mathlib.Core.Path.{_≡_, refl, sym, ap, _∙_}
-use mathlib.Core.List.{List, [], _∷_, _++_, append-assoc}
+use mathlib.Core.List.{List, _++_, append-assoc}
 use mathlib.Core.Logic.{_⊎_, inl, inr}
 use Prim.Native.Nat.{ℕ, zero, suc, _+_, _-_, _*_, _/_, _%_, _≤_, _<_}
 use native.Mathlib.Omega.{arith}
 use native.Mathlib.Decide.{decLt}
-use lib.ListN.{length, take, drop, length-append, length-drop, take-append-drop}
+use lib.ListN.{length, take, drop, length-drop, take-append-drop}
 use lib.Seq.{take-at, length-take-le, drop-drop, getD-take, getD-drop, ext-getD}
 use Rattle.units.specs.Units.{Bytes, part, sumWidth, Changed}
 use Rattle.units.proofs.Parts.{length-part, bytes-part}

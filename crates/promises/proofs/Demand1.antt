@@ -1,128 +1,105 @@
--- Demand 1, sentence by sentence. Assumes nothing.
+-- Demand 1 holds. Assumes nothing.
 use mathlib.Core.Path.{_≡_, refl, sym, ap, _∙_}
 use mathlib.Core.List.{List}
-use mathlib.Core.Logic.{_⊎_, inl, inr, _≢_}
-use Prim.Native.Nat.{ℕ, _+_, _≤_, min}
+use mathlib.Core.Logic.{inl, inr, ⊎-elim, _≢_}
+use Prim.Native.Nat.{ℕ, _+_, _≤_}
 use native.Mathlib.Omega.{arith}
-use lib.ListN.{length, drop}
+use lib.ListN.{length}
 use Rattle.units.specs.Units.{part}
-use Rattle.body.specs.Answers.{noMessage}
-use Rattle.body.specs.declared.Refusal.{Refusal}
-use Rattle.body.specs.declared.Message.{Message}
 use Rattle.builder.specs.Build.{bufAfter, told as Builder·told}
 use Rattle.builder.specs.declared.Step.{Step}
 use Rattle.builder.specs.declared.Step.the-variants.{Done, Denied}
-use Rattle.packet.specs.Read.{window, readPacket, noRefusal, noPacket, Told, told}
-use Rattle.packet.specs.Messages.{listPacket, listAfter, starts, lengths, messagePacket, listTold, messageTold}
+use Rattle.packet.specs.Read.{window, readPacket, noRefusal, told}
+use Rattle.packet.specs.Messages.{listPacket, listAfter, starts, lengths, listTold, messageTold}
 use Rattle.packet.specs.Write.{outAfter, writeTold}
 use Rattle.packet.specs.declared.Packet.{Packet}
-use Rattle.packet.specs.declared.PacketRead.{PacketRead}
-use Rattle.packet.specs.declared.PacketRead.the-variants.{Accepted, Refused}
 use Rattle.packet.specs.declared.PacketList.{PacketList}
 use Rattle.packet.specs.declared.PacketList.the-variants.{Listed, Unlisted}
-use Rattle.packet.specs.declared.PacketMessage.{PacketMessage}
-use Rattle.packet.specs.declared.PacketMessage.the-variants.{Given, Withheld}
 use Rattle.packet.specs.declared.PacketWrite.{PacketWrite}
 use Rattle.packet.specs.declared.PacketWrite.the-variants.{Written, Unwritten}
-use Rattle.packet.proofs.Window.{entries, entries-kept, count-fits, length-after, read-window, list-window, message-window, entries-window}
-use Rattle.packet.proofs.Told.{read-told}
+use Rattle.packet.proofs.Window.{entries-kept, count-fits, length-after, read-window, list-window, message-window, entries-window}
 use Rattle.packet.proofs.Own.{own-read, own-list, own-message, own-entries}
-use Rattle.promises.specs.Endings.{Ends, readTold, listedTold, givenTold, Placed}
-use Rattle.promises.proofs.Ends.{read-ends, read-placed, list-ends, message-ends}
+use Rattle.recording.specs.Reading.{Reading, reading, readRecording}
+use Rattle.recording.specs.Handed.{HandsOut}
+use Rattle.recording.proofs.HandedOut.{hands-out, hands-out-once, recording-numbered, reading-window, recording-window}
+use Rattle.promises.specs.Endings.{readTold}
+use Rattle.promises.specs.Demand1.{Alike, Kept, Demand1}
+use Rattle.promises.proofs.Ends.{above, accepted-is, read-ends, read-placed, list-ends, message-ends}
 
--- "A read names a start and a filled end in a buffer. For every input it ends with a packet or one refusal from the table, number
--- and place fixed." The numbers are those of `told` and its companions; that they are fixed, for every call, is in Once.antt.
-
-module _ (buf : List ℕ) (start end : ℕ) where
-  -- the reader: a packet, or one of 1 to 15, and where that is placed
-  pub read-ends-with : Ends 15 readTold noPacket (told (readPacket buf start end))
-  read-ends-with = read-ends buf start end
-
-  pub read-refusal-placed : told (readPacket buf start end) .refusal .number ≢ 0 → Placed buf start end (told (readPacket buf start end) .refusal)
-  read-refusal-placed = read-placed buf start end
-
-  -- the lister, with lists of any length: a count, or one of 1 to 16
-  pub list-ends-with : (len₁ len₂ : ℕ) → Ends 16 listedTold 0 (listTold (listPacket buf start end len₁ len₂))
-  list-ends-with = list-ends buf start end
-
-  -- one message, of any number: it, or one of 1 to 17
-  pub message-ends-with : (number : ℕ) → Ends 17 givenTold noMessage (messageTold (messagePacket buf start end number))
-  message-ends-with = message-ends buf start end
-
--- "Nothing outside that window changes the answer." Two buffers that both reach to the end, with the same bytes from start to it.
+-- ---- the window
 
 module _ (a b : List ℕ) (start end : ℕ) (in-a : end ≤ length a) (in-b : end ≤ length b) (same : window a start end ≡ window b start end) where
-  pub nothing-outside-read : told (readPacket a start end) ≡ told (readPacket b start end)
-  nothing-outside-read = ap told (read-window a b start end in-a in-b same)
+  outside : Alike start a end b end
+  outside =
+      record {
+        read = ap told (read-window a b start end in-a in-b same);
+        list = λ m n. ap listTold (list-window a b start end in-a in-b same m n);
+        starts-told = λ m n old old′. entries-window a b start end in-a in-b same m n old old′ .0;
+        lengths-told = λ m n old old′. entries-window a b start end in-a in-b same m n old old′ .1;
+        message = λ k. ap messageTold (message-window a b start end in-a in-b same k);
+      }
 
-  -- the lister's answer, and the entries told, whatever the lists held before
-  pub nothing-outside-list : (len₁ len₂ : ℕ) → listTold (listPacket a start end len₁ len₂) ≡ listTold (listPacket b start end len₁ len₂)
-  nothing-outside-list len₁ len₂ = ap listTold (list-window a b start end in-a in-b same len₁ len₂)
+  handed-alike : (ps : List Packet) → HandsOut a start end (readRecording a start end) ps → HandsOut b start end (readRecording b start end) ps
+  handed-alike ps h =
+      let e : ps ≡ reading b start end .packets =
+      hands-out-once a start end _ ps h .1 ∙ ap (λ (r : Reading). r .packets) (reading-window a b start end in-a in-b same) in
+      rw e (hands-out b start end)
 
-  pub nothing-outside-entries : (len₁ len₂ : ℕ) (old old′ : List ℕ)
-      → (entries (listPacket a start end len₁ len₂) (starts (window a start end)) old ≡ entries (listPacket b start end len₁ len₂) (starts (window b start end)) old′)
-      × (entries (listPacket a start end len₁ len₂) (lengths (window a start end)) old ≡ entries (listPacket b start end len₁ len₂) (lengths (window b start end)) old′)
-  nothing-outside-entries = entries-window a b start end in-a in-b same
+behind : (a b : List ℕ) (start end end′ : ℕ) (p : Packet) → told (readPacket a start end) ≡ readTold noRefusal p
+    → start + p .length ≤ end′ → end′ ≤ length b → part a start (p .length) ≡ part b start (p .length) → Alike start a end b end′
+behind a b start end end′ p is reaches in-b same =
+    let accepted = accepted-is a start end p is in
+    record {
+      read = is ∙ ap told (sym (own-read a b start end end′ p accepted reaches in-b same));
+      list = λ m n. ap listTold (own-list a b start end end′ p accepted reaches in-b same m n);
+      starts-told = λ m n old old′. own-entries a b start end end′ p accepted reaches in-b same m n old old′ .0;
+      lengths-told = λ m n old old′. own-entries a b start end end′ p accepted reaches in-b same m n old old′ .1;
+      message = λ k. ap messageTold (own-message a b start end end′ p accepted reaches in-b same k);
+    }
 
-  pub nothing-outside-message : (number : ℕ) → messageTold (messagePacket a start end number) ≡ messageTold (messagePacket b start end number)
-  nothing-outside-message number = ap messageTold (message-window a b start end in-a in-b same number)
+-- ---- lent memory
 
--- And of document 01: "For one accepted packet, the bytes behind its declared length have no say either", nor has the end beyond it.
+kept : (buf : List ℕ) (start end : ℕ) (starts₀ lengths₀ : List ℕ)
+    → Kept (listPacket buf start end (length starts₀) (length lengths₀)) (starts (window buf start end)) starts₀
+    × Kept (listPacket buf start end (length starts₀) (length lengths₀)) (lengths (window buf start end)) lengths₀
+kept buf start end starts₀ lengths₀ =
+    let r = listPacket buf start end (length starts₀) (length lengths₀) in
+    let w = window buf start end in
+    let fits = count-fits buf start end (length starts₀) (length lengths₀) in (
+      record { past = entries-kept r (starts w) starts₀; long = length-after r (starts w) starts₀ (omega (arith, fits)) },
+      record { past = entries-kept r (lengths w) lengths₀; long = length-after r (lengths w) lengths₀ (omega (arith, fits)) },
+    )
 
-module _ (a b : List ℕ) (start end end′ : ℕ) (p : Packet) (is : told (readPacket a start end) ≡ readTold noRefusal p) (reaches : start + p .length ≤ end′)
-    (in-b : end′ ≤ length b) (same : part a start (p .length) ≡ part b start (p .length)) where
-  accepts : readPacket a start end ≡ Accepted p
-  accepts = read-told a start end (ap (λ (t : Told). t .refusal .number) is) ∙ ap (λ (t : Told). Accepted (t .packet)) is
-
-  pub nothing-behind-read : told (readPacket b start end′) ≡ readTold noRefusal p
-  nothing-behind-read = ap told (own-read a b start end end′ p accepts reaches in-b same)
-
-  pub nothing-behind-list : (len₁ len₂ : ℕ) → listTold (listPacket a start end len₁ len₂) ≡ listTold (listPacket b start end′ len₁ len₂)
-  nothing-behind-list len₁ len₂ = ap listTold (own-list a b start end end′ p accepts reaches in-b same len₁ len₂)
-
-  pub nothing-behind-entries : (len₁ len₂ : ℕ) (old old′ : List ℕ)
-      → (entries (listPacket a start end len₁ len₂) (starts (window a start end)) old ≡ entries (listPacket b start end′ len₁ len₂) (starts (window b start end′)) old′)
-      × (entries (listPacket a start end len₁ len₂) (lengths (window a start end)) old ≡ entries (listPacket b start end′ len₁ len₂) (lengths (window b start end′)) old′)
-  nothing-behind-entries = own-entries a b start end end′ p accepts reaches in-b same
-
-  pub nothing-behind-message : (number : ℕ) → messageTold (messagePacket a start end number) ≡ messageTold (messagePacket b start end′ number)
-  nothing-behind-message number = ap messageTold (own-message a b start end end′ p accepts reaches in-b same number)
-
--- "Readers write nothing but the lists they are lent": a buffer that is read is lent for reading, which the language holds to.
--- Of a lent list, no entry past the count told is written, and the list keeps its length.
-
-module _ (buf : List ℕ) (start end : ℕ) (starts₀ lengths₀ : List ℕ) where
-  abbrev answer : PacketList
-  answer = listPacket buf start end (length starts₀) (length lengths₀)
-
-  pub entries-past-kept : (drop (listTold answer .count) (listAfter answer (starts (window buf start end)) starts₀) ≡ drop (listTold answer .count) starts₀)
-      × (drop (listTold answer .count) (listAfter answer (lengths (window buf start end)) lengths₀) ≡ drop (listTold answer .count) lengths₀)
-  entries-past-kept = (entries-kept answer (starts (window buf start end)) starts₀, entries-kept answer (lengths (window buf start end)) lengths₀)
-
-  pub lists-keep-length : (length (listAfter answer (starts (window buf start end)) starts₀) ≡ length starts₀)
-      × (length (listAfter answer (lengths (window buf start end)) lengths₀) ≡ length lengths₀)
-  lists-keep-length =
-      let fits = count-fits buf start end (length starts₀) (length lengths₀) in (
-        length-after answer (starts (window buf start end)) starts₀ (omega (arith, fits)),
-        length-after answer (lengths (window buf start end)) lengths₀ (omega (arith, fits)),
-      )
-
--- "a refused call leaves all lent memory untouched"
-
--- the lister's two lists, whatever its entries would be
-pub refused-list-untouched : (r : PacketList) → listTold r .refusal .number ≢ 0 → (values : ℕ → ℕ) (old : List ℕ) → listAfter r values old ≡ old
+lists-same : (r : PacketList) → listTold r .refusal .number ≢ 0 → (values : ℕ → ℕ) (old : List ℕ) → listAfter r values old ≡ old
 unfolding listAfter
-refused-list-untouched (Listed n) h values old = absurd (h refl)
-refused-list-untouched (Unlisted r) h values old = refl
+lists-same (Listed n) h values old = absurd (h refl)
+lists-same (Unlisted r) h values old = refl
 
--- the writer's output
-pub refused-output-untouched : (r : PacketWrite) → writeTold r .refusal .number ≢ 0 → (old bytes : List ℕ) → outAfter r old bytes ≡ old
+output-same : (r : PacketWrite) → writeTold r .refusal .number ≢ 0 → (old bytes : List ℕ) → outAfter r old bytes ≡ old
 unfolding outAfter
-refused-output-untouched (Written n) h old bytes = absurd (h refl)
-refused-output-untouched (Unwritten r) h old bytes = refl
+output-same (Written n) h old bytes = absurd (h refl)
+output-same (Unwritten r) h old bytes = refl
 
--- the builder's buffer, at each of its steps
-pub refused-buffer-untouched : (r : Step) → Builder·told r .number ≢ 0 → (old : List ℕ) (at : ℕ) (bytes : List ℕ) → bufAfter r old at bytes ≡ old
+buffer-same : (r : Step) → Builder·told r .number ≢ 0 → (old : List ℕ) (at : ℕ) (bytes : List ℕ) → bufAfter r old at bytes ≡ old
 unfolding bufAfter
-refused-buffer-untouched (Done d) h old at bytes = absurd (h refl)
-refused-buffer-untouched (Denied r d) h old at bytes = refl
+buffer-same (Done d) h old at bytes = absurd (h refl)
+buffer-same (Denied r d) h old at bytes = refl
+
+pub demand-1 : Demand1
+demand-1 =
+    record {
+      read-ends = read-ends;
+      read-placed = read-placed;
+      list-ends = list-ends;
+      message-ends = message-ends;
+      recording-ends =
+          λ buf start end. ⊎-elim inl (λ h. inr (h .0, (above _ (h .1), recording-numbered buf start end))) (hands-out buf start end .ends);
+      nothing-outside = outside;
+      nothing-outside-recording = recording-window;
+      nothing-outside-handed = handed-alike;
+      nothing-behind = behind;
+      lists-kept = kept;
+      lists-untouched = lists-same;
+      output-untouched = output-same;
+      buffer-untouched = buffer-same;
+    }

@@ -14,14 +14,12 @@ use Rattle.units.proofs.Parts.{length-part}
 use Rattle.body.specs.Walk.{refused, fault}
 use Rattle.body.specs.Answers.{noMessage}
 use Rattle.body.specs.declared.Refusal.{Refusal}
-use Rattle.body.specs.declared.Message.{Message}
 use Rattle.body.specs.declared.Checked.{Checked}
 use Rattle.body.specs.declared.Checked.the-variants.{Counted, Faulty}
 use Rattle.body.proofs.Bounds.{faulty-place}
 use Rattle.frame.specs.Header.{flagsIn, dataLength, bodyAt, bodyIn}
-use Rattle.packet.specs.Read.{window, outerRefusal, bodyChecked, bodyAnswer, readPacket, noRefusal, noPacket, told}
+use Rattle.packet.specs.Read.{window, outerRefusal, bodyChecked, bodyAnswer, readPacket, noRefusal, noPacket, Told, told}
 use Rattle.packet.specs.Messages.{listPacket, listTold, messagePacket, messageTold}
-use Rattle.packet.specs.Write.{writePacket, writeTold}
 use Rattle.packet.specs.declared.Packet.{Packet}
 use Rattle.packet.specs.declared.PacketRead.{PacketRead}
 use Rattle.packet.specs.declared.PacketRead.the-variants.{Accepted, Refused}
@@ -33,7 +31,7 @@ use Rattle.packet.proofs.Answers.{outer-open}
 use Rattle.promises.specs.Endings.{Ends, readTold, listedTold, givenTold, Placed}
 use Rattle.packet.proofs.Told.{outer-top, read-told, read-numbered, list-told, list-numbered, message-told, message-numbered}
 
-above : (n : ℕ) → (n ≡ 0 → ⊥) → 1 ≤ n
+pub above : (n : ℕ) → (n ≡ 0 → ⊥) → 1 ≤ n
 above n h = go (eq-zero-or-pos n)
   where
     go : (n ≡ 0) ⊎ (0 < n) → 1 ≤ n
@@ -41,6 +39,10 @@ above n h = go (eq-zero-or-pos n)
     go (inr p) = p
 
 -- ---- the reader
+
+-- what is told as a packet is accepted
+pub accepted-is : (buf : List ℕ) (s e : ℕ) (p : Packet) → told (readPacket buf s e) ≡ readTold noRefusal p → readPacket buf s e ≡ Accepted p
+accepted-is buf s e p is = read-told buf s e (ap (λ (t : Told). t .refusal .number) is) ∙ ap (λ (t : Told). Accepted (t .packet)) is
 
 module _ (buf : List ℕ) (s e : ℕ) where
   read-from : (x : PacketRead) → readPacket buf s e ≡ x → told x .refusal .number ≡ 0 → x ≡ Accepted (told x .packet)

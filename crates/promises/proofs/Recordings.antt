@@ -1,10 +1,9 @@
 -- Contents that the writer accepts, written end to end in a window, are handed out, and an altered packet behind them ends the reading. Assumes nothing.
 use mathlib.Core.Path.{_≡_, refl, sym, ap, subst, _∙_}
 use mathlib.Core.List.{List, [], _∷_, _++_, map, append-assoc, append-nil}
-use mathlib.Core.Bool.{Bool, true, false}
 use Prim.Native.Nat.{ℕ, _+_, _-_, _≤_, _<_}
 use native.Mathlib.Omega.{arith}
-use native.Mathlib.Nat.{add-zero, add-assoc}
+use native.Mathlib.Nat.{add-zero}
 use lib.ListN.{length, take, drop, length-append, length-map}
 use lib.Seq.{take-at, drop-at, take-take}
 use Rattle.units.specs.Units.{part}
@@ -12,9 +11,8 @@ use Rattle.units.proofs.Parts.{length-part}
 use Rattle.body.specs.Walk.{refused}
 use Rattle.body.specs.declared.Refusal.{Refusal}
 use Rattle.frame.specs.Table.{first, frameLines}
-use Rattle.packet.specs.Read.{inside, window, readPacket, noRefusal}
+use Rattle.packet.specs.Read.{window, noRefusal}
 use Rattle.packet.specs.declared.Packet.{Packet}
-use Rattle.packet.specs.declared.PacketRead.the-variants.{Accepted, Refused}
 use Rattle.packet.proofs.Answers.{outer-inside, read-refused}
 use Rattle.recording.specs.Reading.{Reading, stopped, ahead, reading, readRecording}
 use Rattle.recording.proofs.Readings.{from, from-end, from-on, from-stops, inside-of, reading-inside}

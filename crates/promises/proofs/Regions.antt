@@ -1,6 +1,6 @@
 -- The regions of a packet that is written, read again: the header, the secondary header, and body, filler and data sum. Assumes nothing.
 use mathlib.Core.Path.{_≡_, refl, sym}
-use mathlib.Core.List.{List, [], _∷_, _++_, append-assoc}
+use mathlib.Core.List.{List, [], _++_, append-assoc}
 use mathlib.Core.Bool.{Bool, true, false, _||_}
 use Prim.Native.Nat.{ℕ, zero, suc, _*_, _^_, _<_}
 use native.Mathlib.Omega.{arith}

@@ -1,13 +1,11 @@
 -- What the writer's acceptance says, rule by rule, and that it says no more. Assumes nothing.
-use mathlib.Core.Path.{_≡_, refl, sym, ap, _∙_}
-use mathlib.Core.List.{List, []}
+use mathlib.Core.Path.{_≡_, refl, _∙_}
 use mathlib.Core.Bool.{Bool, true, false, not, _||_}
 use Prim.Native.Nat.{ℕ, _^_, _≤_, _<_}
 use native.Mathlib.Omega.{arith}
 use lib.ListN.{length}
 use lib.Dec.{eqb, ltb}
 use borrow.Author.Tests.{eqb-true, eqb-false, ltb-true, ltb-false, lt-ltb, le-ltb}
-use Rattle.units.specs.Units.{Bytes}
 use Rattle.units.specs.Choice.{pick}
 use Rattle.units.proofs.Choices.{and-true}
 use Rattle.body.specs.Walk.{refused}
@@ -19,7 +17,7 @@ use Rattle.frame.specs.Rules.{secondaryTimeOk, messageRule}
 use Rattle.frame.specs.Table.{first, valueLines}
 use Rattle.frame.proofs.Tables.{holds, stage-none, stage-first, stage-second}
 use Rattle.frame.proofs.Frames.{Valued, valued-says, valued-passes, value-numbered}
-use Rattle.packet.specs.Write.{inRange, writerLines, writerRefusal, fitted, writePacket, writeTold}
+use Rattle.packet.specs.Write.{writerLines, writerRefusal, fitted, writePacket, writeTold}
 use Rattle.packet.specs.declared.PacketWrite.{PacketWrite}
 use Rattle.packet.specs.declared.PacketWrite.the-variants.{Written, Unwritten}
 use Rattle.packet_bytes.proofs.Puts.{length-packet}

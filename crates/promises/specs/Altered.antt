@@ -6,7 +6,7 @@ use Prim.Native.Nat.{ℕ, suc, _+_, _*_, _≤_, _<_}
 use lib.ListN.{length}
 use Rattle.units.specs.Units.{Bytes}
 use Rattle.frame.specs.Header.{byte, sumLength, secondaryLength, bodyAt}
-use Rattle.promises.specs.Contents.{Contents, packetOf, Accepts}
+use Rattle.promises.specs.Contents.{Contents, packetOf, Accepts, AllAccepted, written}
 
 abbrev pub flagsOf : Contents → ℕ
 flagsOf c = c .fields .flags
@@ -43,3 +43,17 @@ pub data Pieces : List Contents → ℕ → List ℕ → Type 0 where
   kept : {c : Contents} {cs : List Contents} {k : ℕ} {bs : List ℕ} → Accepts c → Pieces cs k bs → Pieces (c ∷ cs) k (packetOf c ++ bs)
   altered : {c : Contents} {n : ℕ} {ys : List ℕ} {cs : List Contents} {k : ℕ} {bs : List ℕ} → Accepts c → Altered c n ys → Pieces cs k bs
       → Pieces (c ∷ cs) (suc k) (ys ++ bs)
+
+-- where any is altered, at least one: the first altered one, what stands before it as it was written, and what stands behind
+pub record FirstAltered (cs : List Contents) (bs : List ℕ) : Type 0 where
+  pub before : List Contents
+  pub first : Contents
+  pub behind : List Contents
+  pub number : ℕ
+  pub packet : List ℕ
+  pub rest : List ℕ
+  pub list : cs ≡ before ++ (first ∷ behind)
+  pub intact : AllAccepted before
+  pub accepted : Accepts first
+  pub spoilt : Altered first number packet
+  pub bytes : bs ≡ written before ++ (packet ++ rest)

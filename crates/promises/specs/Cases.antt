@@ -6,7 +6,6 @@ use lib.ListN.{length, take, set, replicate}
 use Rattle.units.specs.Units.{field}
 use Rattle.body.specs.Walk.{refused}
 use Rattle.frame.specs.Header.{secondaryIn}
-use Rattle.frame.specs.declared.Fields.{Fields}
 use Rattle.packet.specs.Read.{partAt, readPacket, noRefusal, noPacket, Told, told}
 use Rattle.packet.specs.Write.{writePacket, WriteTold, writeTold}
 use Rattle.promises.specs.Contents.{Contents, packetOf, written}

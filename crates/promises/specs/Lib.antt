@@ -4,4 +4,7 @@ pub mod Keeps
 pub mod Reports
 pub mod Altered
 pub mod ReadsAs
+pub mod Demand1
+pub mod Demand2
+pub mod Demand3
 pub mod Cases

@@ -1,0 +1,75 @@
+-- Demand 1, sentence by sentence; proved in proofs/Demand1.antt (demand-1).
+use mathlib.Core.Path.{_≡_}
+use mathlib.Core.List.{List}
+use mathlib.Core.Bool.{true}
+use mathlib.Core.Logic.{_⊎_, _≢_}
+use Prim.Native.Nat.{ℕ, _+_, _≤_}
+use lib.ListN.{length, drop}
+use Rattle.units.specs.Units.{part}
+use Rattle.body.specs.Answers.{noMessage}
+use Rattle.builder.specs.Build.{bufAfter, told as Builder·told}
+use Rattle.builder.specs.declared.Step.{Step}
+use Rattle.packet.specs.Read.{inside, window, readPacket, noRefusal, noPacket, told}
+use Rattle.packet.specs.Messages.{listPacket, listAfter, starts, lengths, messagePacket, listTold, entries, messageTold}
+use Rattle.packet.specs.Write.{outAfter, writeTold}
+use Rattle.packet.specs.declared.Packet.{Packet}
+use Rattle.packet.specs.declared.PacketList.{PacketList}
+use Rattle.packet.specs.declared.PacketWrite.{PacketWrite}
+use Rattle.recording.specs.Reading.{readRecording}
+use Rattle.recording.specs.Handed.{HandsOut}
+use Rattle.promises.specs.Endings.{FromTable, Ends, readTold, listedTold, givenTold, Placed}
+
+-- the three calls on the packet at `start` say the same of two buffers, with these ends; the lists' entries too, whatever they held before
+pub record Alike (start : ℕ) (a : List ℕ) (end : ℕ) (b : List ℕ) (end′ : ℕ) : Type 0 where
+  pub read : told (readPacket a start end) ≡ told (readPacket b start end′)
+  pub list : (len₁ len₂ : ℕ) → listTold (listPacket a start end len₁ len₂) ≡ listTold (listPacket b start end′ len₁ len₂)
+  pub starts-told : (len₁ len₂ : ℕ) (old old′ : List ℕ)
+      → entries (listPacket a start end len₁ len₂) (starts (window a start end)) old ≡ entries (listPacket b start end′ len₁ len₂) (starts (window b start end′)) old′
+  pub lengths-told : (len₁ len₂ : ℕ) (old old′ : List ℕ)
+      → entries (listPacket a start end len₁ len₂) (lengths (window a start end)) old ≡ entries (listPacket b start end′ len₁ len₂) (lengths (window b start end′)) old′
+  pub message : (number : ℕ) → messageTold (messagePacket a start end number) ≡ messageTold (messagePacket b start end′ number)
+
+-- a list after the lister: what stands past the count told is as it was, and so is its length
+pub record Kept (r : PacketList) (values : ℕ → ℕ) (old : List ℕ) : Type 0 where
+  pub past : drop (listTold r .count) (listAfter r values old) ≡ drop (listTold r .count) old
+  pub long : length (listAfter r values old) ≡ length old
+
+pub record Demand1 : Type 0 where
+  -- "A read names a start and a filled end in a buffer. For every input it ends with a packet or one refusal from the table, number
+  -- and place fixed." Fixed: no two outcomes satisfy what a call promises (proofs/Once.antt).
+
+  -- the reader: a packet, or one of 1 to 15, and its place
+  pub read-ends : (buf : List ℕ) (start end : ℕ) → Ends 15 readTold noPacket (told (readPacket buf start end))
+  pub read-placed : (buf : List ℕ) (start end : ℕ) → told (readPacket buf start end) .refusal .number ≢ 0
+      → Placed buf start end (told (readPacket buf start end) .refusal)
+  -- the lister, with lists of any length: a count, or one of 1 to 16
+  pub list-ends : (buf : List ℕ) (start end len₁ len₂ : ℕ) → Ends 16 listedTold 0 (listTold (listPacket buf start end len₁ len₂))
+  -- one message, of any number: it, or one of 1 to 17
+  pub message-ends : (buf : List ℕ) (start end number : ℕ) → Ends 17 givenTold noMessage (messageTold (messagePacket buf start end number))
+  -- a recording: at the exact end of a window in its buffer, or at a place where the reader gives that refusal, one of 1 to 15
+  pub recording-ends : (buf : List ℕ) (start end : ℕ)
+      → ((inside buf start end ≡ true) × (readRecording buf start end .reached ≡ end) × (readRecording buf start end .refusal ≡ noRefusal))
+      ⊎ ((told (readPacket buf (readRecording buf start end .reached) end) .refusal ≡ readRecording buf start end .refusal)
+      × FromTable 15 (readRecording buf start end .refusal))
+  -- "Nothing outside that window changes the answer."
+
+  -- two buffers that both reach to the end, with the same bytes from start to it
+  pub nothing-outside : (a b : List ℕ) (start end : ℕ) → end ≤ length a → end ≤ length b → window a start end ≡ window b start end
+      → Alike start a end b end
+  pub nothing-outside-recording : (a b : List ℕ) (start end : ℕ) → end ≤ length a → end ≤ length b → window a start end ≡ window b start end
+      → readRecording a start end ≡ readRecording b start end
+  -- the packets that a recording hands out are the same too
+  pub nothing-outside-handed : (a b : List ℕ) (start end : ℕ) → end ≤ length a → end ≤ length b → window a start end ≡ window b start end
+      → (ps : List Packet) → HandsOut a start end (readRecording a start end) ps → HandsOut b start end (readRecording b start end) ps
+  -- document 01: "For one accepted packet, the bytes behind its declared length have no say either", nor has the end beyond it
+  pub nothing-behind : (a b : List ℕ) (start end end′ : ℕ) (p : Packet) → told (readPacket a start end) ≡ readTold noRefusal p
+      → start + p .length ≤ end′ → end′ ≤ length b → part a start (p .length) ≡ part b start (p .length) → Alike start a end b end′
+  -- "Readers write nothing but the lists they are lent": a buffer that is read is lent for reading alone, which the language holds to;
+  -- of a list, nothing past the count told is written
+  pub lists-kept : (buf : List ℕ) (start end : ℕ) (starts₀ lengths₀ : List ℕ)
+      → Kept (listPacket buf start end (length starts₀) (length lengths₀)) (starts (window buf start end)) starts₀
+      × Kept (listPacket buf start end (length starts₀) (length lengths₀)) (lengths (window buf start end)) lengths₀
+  -- "a refused call leaves all lent memory untouched": the lister's lists, the writer's output, the builder's buffer at each step
+  pub lists-untouched : (r : PacketList) → listTold r .refusal .number ≢ 0 → (values : ℕ → ℕ) (old : List ℕ) → listAfter r values old ≡ old
+  pub output-untouched : (r : PacketWrite) → writeTold r .refusal .number ≢ 0 → (old bytes : List ℕ) → outAfter r old bytes ≡ old
+  pub buffer-untouched : (r : Step) → Builder·told r .number ≢ 0 → (old : List ℕ) (at : ℕ) (bytes : List ℕ) → bufAfter r old at bytes ≡ old

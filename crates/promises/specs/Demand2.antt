@@ -1,0 +1,63 @@
+-- Demand 2, sentence by sentence; proved in proofs/Demand2.antt (demand-2).
+use mathlib.Core.Path.{_≡_}
+use mathlib.Core.List.{List, _++_}
+use mathlib.Core.Bool.{true, false}
+use mathlib.Core.Logic.{_↔_}
+use Prim.Native.Nat.{ℕ, _+_, _≤_}
+use lib.ListN.{length, take}
+use Rattle.units.specs.Units.{Bytes, part}
+use Rattle.body.specs.Walk.{refused, opens}
+use Rattle.body.specs.Answers.{noMessage}
+use Rattle.body.specs.Blocks.{Entry}
+use Rattle.frame.specs.Header.{kindIn}
+use Rattle.packet.specs.Read.{window, packetIn, readPacket, Together, noRefusal, told}
+use Rattle.packet.specs.Messages.{listPacket, messagePacket, listTold, messageTold}
+use Rattle.packet.specs.Write.{writePacket, outAfter, writeTold}
+use Rattle.packet.specs.declared.Part.{Part}
+use Rattle.packet.specs.declared.Packet.{Packet}
+use Rattle.promises.specs.Contents.{Contents, Typed, packetOf, contentsOf}
+use Rattle.promises.specs.Endings.{readTold, listedTold, givenTold, writtenTold}
+use Rattle.promises.specs.Keeps.{Keeps}
+use Rattle.promises.specs.Reports.{Reports}
+
+-- the bytes of a part
+abbrev pub bytesIn : List ℕ → Part → List ℕ
+bytesIn buf q = part buf (q .at) (q .length)
+
+-- the output after the writer was given c
+abbrev pub outputOf : Contents → List ℕ → List ℕ
+outputOf c out = outAfter (writePacket (c .fields) (c .body) (length out)) out (packetOf c)
+
+pub record Demand2 : Type 0 where
+  -- "A packet is accepted exactly when the rules in document 01, taken from Chapter 11, hold: header, lengths, secondary time, sums,
+  -- filler, and the messages of the types we open." The rules, one by one: Keeps.
+  pub accepted-exactly : (buf : List ℕ) → Bytes buf → (start end : ℕ)
+      → (told (readPacket buf start end) .refusal .number ≡ 0) ↔ Keeps buf start end (window buf start end)
+  -- "Every part and message reported is the one there."
+
+  -- each field is the one in the header, each part stands where the header says
+  pub packet-there : (buf : List ℕ) (start end : ℕ) (p : Packet) → told (readPacket buf start end) ≡ readTold noRefusal p
+      → p ≡ packetIn (window buf start end) start
+  -- the parts stand one behind the other from the start on, and are all of the packet's bytes
+  pub parts-there : (buf : List ℕ) (start end : ℕ) (p : Packet) → told (readPacket buf start end) ≡ readTold noRefusal p
+      → Together start p
+      × (part buf start (p .length)
+      ≡ bytesIn buf (p .header) ++ (bytesIn buf (p .secondary) ++ (bytesIn buf (p .body) ++ (bytesIn buf (p .filler) ++ bytesIn buf (p .sum)))))
+  -- the messages of a type that we open are the blocks of its body, all of them, each where it stands
+  pub messages-there : (buf : List ℕ) → Bytes buf → (start end : ℕ) (p : Packet) → told (readPacket buf start end) ≡ readTold noRefusal p
+      → opens (kindIn (window buf start end)) ≡ true → (es : List Entry) × Reports buf start end es
+  -- of any other type there are none
+  pub carried-none : (buf : List ℕ) (start end : ℕ) (p : Packet) → told (readPacket buf start end) ≡ readTold noRefusal p
+      → opens (kindIn (window buf start end)) ≡ false
+      → ((len₁ len₂ : ℕ) → listTold (listPacket buf start end len₁ len₂) ≡ listedTold noRefusal 0)
+      × ((number : ℕ) → messageTold (messagePacket buf start end number) ≡ givenTold (refused 17 start 0) noMessage)
+  -- "What the writer writes reads back as given": the n bytes that it wrote into any output, at any place of any buffer, whatever
+  -- stands around them
+  pub written-reads-back : (c : Contents) → Typed c → (out : List ℕ) (n : ℕ) → writeTold (writePacket (c .fields) (c .body) (length out)) ≡ writtenTold noRefusal n
+      → (buf : List ℕ) (start end : ℕ) → end ≤ length buf → start + n ≤ end → part buf start n ≡ take n (outputOf c out)
+      → (p : Packet) × (told (readPacket buf start end) ≡ readTold noRefusal p) × (contentsOf buf p ≡ c) × (p .length ≡ n)
+  -- "and an accepted packet written again has the same bytes": its fields and body, into any output with room for it
+  pub written-again : (buf : List ℕ) → Bytes buf → (start end : ℕ) (p : Packet) → told (readPacket buf start end) ≡ readTold noRefusal p
+      → (out : List ℕ) → p .length ≤ length out
+      → (writeTold (writePacket (p .fields) (bytesIn buf (p .body)) (length out)) ≡ writtenTold noRefusal (p .length))
+      × (take (p .length) (outputOf (contentsOf buf p) out) ≡ part buf start (p .length))

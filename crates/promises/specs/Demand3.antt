@@ -1,0 +1,37 @@
+-- Demand 3, sentence by sentence; proved in proofs/Demand3.antt (demand-3).
+use mathlib.Core.Path.{_≡_}
+use mathlib.Core.List.{List, _++_}
+use mathlib.Core.Logic.{_⊎_, _≢_}
+use Prim.Native.Nat.{ℕ, _+_, _≤_, _<_}
+use lib.ListN.{length}
+use Rattle.body.specs.Walk.{refused}
+use Rattle.frame.specs.Header.{sumLength, bodyAt}
+use Rattle.packet.specs.Read.{window, noRefusal}
+use Rattle.promises.specs.Contents.{Contents, packetOf, Accepts, AllAccepted, written}
+use Rattle.promises.specs.Altered.{flagsOf, UnitOf, Altered, Pieces, FirstAltered}
+use Rattle.promises.specs.ReadsAs.{ReadsAs}
+
+pub record Demand3 : Type 0 where
+  -- "Take any list of contents the writer accepts, written end to end, and a window that holds exactly that." Reading it hands out
+  -- exactly the list, to the exact end.
+  pub list-handed-out : (cs : List Contents) → AllAccepted cs → (buf : List ℕ) (start end : ℕ) → start ≤ end → end ≤ length buf
+      → window buf start end ≡ written cs → ReadsAs buf start end cs end noRefusal
+  -- "Different lists never give equal bytes."
+  pub different-lists : (cs ds : List Contents) → AllAccepted cs → AllAccepted ds → cs ≢ ds → written cs ≢ written ds
+  -- "Now alter any of its packets, at least one, each in a single unit: one 16-bit word of its primary header or of its secondary
+  -- header, or, if it carries a data sum, one aligned unit of that sum's width in body, filler or sum. Reading then hands out all
+  -- packets before the first altered one as they were written, and stops at that one's first byte: with refusal 3 for the sync word,
+  -- 4 for another primary word, 11 for a secondary word, 13 for the rest." The units and their numbers: UnitOf.
+  pub altered-list : (cs : List Contents) (k : ℕ) (bs : List ℕ) → Pieces cs k bs → 0 < k
+      → (buf : List ℕ) (start end : ℕ) → start ≤ end → end ≤ length buf → window buf start end ≡ bs
+      → (f : FirstAltered cs bs)
+      × ReadsAs buf start end (f .before) (start + length (written (f .before))) (refused (f .number) (start + length (written (f .before))) 0)
+  -- The same of packets as they were written, one altered, and anything at all behind it.
+  pub stops-at-altered : (before : List Contents) → AllAccepted before → (c : Contents) → Accepts c → (n : ℕ) (ys : List ℕ) → Altered c n ys
+      → (rest buf : List ℕ) (start end : ℕ) → start ≤ end → end ≤ length buf → window buf start end ≡ written before ++ (ys ++ rest)
+      → ReadsAs buf start end before (start + length (written before)) (refused n (start + length (written before)) 0)
+  -- Nothing is left out. Where no packet is altered, the bytes are those of the list;
+  pub none-altered : (cs : List Contents) (bs : List ℕ) → Pieces cs 0 bs → AllAccepted cs × (bs ≡ written cs)
+  -- and each byte of both headers, and of body, filler and sum where a data sum is carried, lies in one of the units.
+  pub every-byte-named : (c : Contents) (i : ℕ) → i < length (packetOf c) → (i < bodyAt (flagsOf c)) ⊎ (0 < sumLength (flagsOf c))
+      → (n : ℕ) × (at : ℕ) × (width : ℕ) × UnitOf c n at width × (at ≤ i) × (i < at + width)
