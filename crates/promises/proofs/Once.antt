@@ -1,5 +1,5 @@
 -- No two outcomes satisfy the statement of a public call: its result, and what each slice lent for writing holds afterwards.
--- Each statement is the call's `ensures`, over the values at entry. Assumes nothing.
+-- The statements: specs/Calls.antt. Assumes nothing.
 use mathlib.Core.Path.{_≡_, sym, ap, _∙_}
 use mathlib.Core.List.{List}
 use Prim.Native.Nat.{ℕ}
@@ -20,6 +20,7 @@ use Rattle.packet.specs.declared.PacketMessage.{PacketMessage}
 use Rattle.packet.specs.declared.PacketWrite.{PacketWrite}
 use Rattle.recording.specs.Reading.{readRecording}
 use Rattle.recording.specs.declared.Recording.{Recording}
+use Rattle.promises.specs.Calls.{ReadPacket, ListMessages, Message, WritePacket, ReadRecording, Fresh, Open, Add, Close}
 
 -- ---- an outcome: a result that is `given`, alone or with one slice that is `after` it
 
@@ -40,19 +41,8 @@ with-once given after r r′ slice slice′ h h′ =
 
 -- ---- the calls on one packet
 
--- read_packet(buf, start, end)
-abbrev pub ReadPacket : List ℕ → ℕ → ℕ → PacketRead → Type 0
-ReadPacket buf start end r = r ≡ readPacket buf start end
-
 pub read-packet-once : (buf : List ℕ) (start end : ℕ) (r r′ : PacketRead) → ReadPacket buf start end r → ReadPacket buf start end r′ → r ≡ r′
 read-packet-once buf start end = only-once (readPacket buf start end)
-
--- list_messages(buf, start, end, starts, lengths): the two lists at entry, the result, and the two lists at exit
-abbrev pub ListMessages : List ℕ → ℕ → ℕ → List ℕ → List ℕ → PacketList → List ℕ → List ℕ → Type 0
-ListMessages buf start end starts₀ lengths₀ r starts₁ lengths₁ =
-    (r ≡ listPacket buf start end (length starts₀) (length lengths₀))
-    × (starts₁ ≡ listAfter r (starts (window buf start end)) starts₀)
-    × (lengths₁ ≡ listAfter r (lengths (window buf start end)) lengths₀)
 
 pub list-messages-once : (buf : List ℕ) (start end : ℕ) (starts₀ lengths₀ : List ℕ) (r r′ : PacketList) (starts₁ starts₁′ lengths₁ lengths₁′ : List ℕ)
     → ListMessages buf start end starts₀ lengths₀ r starts₁ lengths₁ → ListMessages buf start end starts₀ lengths₀ r′ starts₁′ lengths₁′
@@ -63,16 +53,8 @@ list-messages-once buf start end starts₀ lengths₀ r r′ starts₁ starts₁
     let l = with-once given (λ x. listAfter x (lengths (window buf start end)) lengths₀) r r′ lengths₁ lengths₁′ (h .0, h .2) (h′ .0, h′ .2) in
     (s .0, s .1, l .1)
 
--- message(buf, start, end, number)
-abbrev pub Message : List ℕ → ℕ → ℕ → ℕ → PacketMessage → Type 0
-Message buf start end number r = r ≡ messagePacket buf start end number
-
 pub message-once : (buf : List ℕ) (start end number : ℕ) (r r′ : PacketMessage) → Message buf start end number r → Message buf start end number r′ → r ≡ r′
 message-once buf start end number = only-once (messagePacket buf start end number)
-
--- write_packet(fields, body, out): the output at entry, the result, and the output at exit
-abbrev pub WritePacket : Fields → List ℕ → List ℕ → PacketWrite → List ℕ → Type 0
-WritePacket fields body out₀ r out₁ = (r ≡ writePacket fields body (length out₀)) × (out₁ ≡ outAfter r out₀ (packetBytes fields body))
 
 pub write-packet-once : (fields : Fields) (body out₀ : List ℕ) (r r′ : PacketWrite) (out₁ out₁′ : List ℕ)
     → WritePacket fields body out₀ r out₁ → WritePacket fields body out₀ r′ out₁′ → (r ≡ r′) × (out₁ ≡ out₁′)
@@ -80,43 +62,22 @@ write-packet-once fields body out₀ = with-once (writePacket fields body (lengt
 
 -- ---- the recording
 
--- read_recording(buf, start, end)
-abbrev pub ReadRecording : List ℕ → ℕ → ℕ → Recording → Type 0
-ReadRecording buf start end r = r ≡ readRecording buf start end
-
 pub read-recording-once : (buf : List ℕ) (start end : ℕ) (r r′ : Recording) → ReadRecording buf start end r → ReadRecording buf start end r′ → r ≡ r′
 read-recording-once buf start end = only-once (readRecording buf start end)
 
 -- ---- the builder
 
--- Draft::fresh()
-abbrev pub Fresh : Draft → Type 0
-Fresh r = r ≡ freshDraft
-
 pub fresh-once : (r r′ : Draft) → Fresh r → Fresh r′ → r ≡ r′
 fresh-once = only-once freshDraft
-
--- open(self, buf, kind, rule): the buffer at entry, the result, and the buffer at exit
-abbrev pub Open : Draft → List ℕ → ℕ → ℕ → Step → List ℕ → Type 0
-Open d buf₀ kind rule r buf₁ = (r ≡ openStep d kind rule (length buf₀)) × (buf₁ ≡ bufAfter r buf₀ 0 (bytesOf 4 (openWord kind rule)))
 
 pub open-once : (d : Draft) (buf₀ : List ℕ) (kind rule : ℕ) (r r′ : Step) (buf₁ buf₁′ : List ℕ)
     → Open d buf₀ kind rule r buf₁ → Open d buf₀ kind rule r′ buf₁′ → (r ≡ r′) × (buf₁ ≡ buf₁′)
 open-once d buf₀ kind rule = with-once (openStep d kind rule (length buf₀)) (λ x. bufAfter x buf₀ 0 (bytesOf 4 (openWord kind rule)))
 
--- add(self, buf, time, upper, bytes)
-abbrev pub Add : Draft → List ℕ → ℕ → ℕ → List ℕ → Step → List ℕ → Type 0
-Add d buf₀ time upper bytes r buf₁ =
-    (r ≡ addStep d (length buf₀) time (length bytes)) × (buf₁ ≡ bufAfter r buf₀ (d .used) (blockBytes (stamped (d .rule)) (entryOf time upper bytes)))
-
 pub add-once : (d : Draft) (buf₀ : List ℕ) (time upper : ℕ) (bytes : List ℕ) (r r′ : Step) (buf₁ buf₁′ : List ℕ)
     → Add d buf₀ time upper bytes r buf₁ → Add d buf₀ time upper bytes r′ buf₁′ → (r ≡ r′) × (buf₁ ≡ buf₁′)
 add-once d buf₀ time upper bytes =
     with-once (addStep d (length buf₀) time (length bytes)) (λ x. bufAfter x buf₀ (d .used) (blockBytes (stamped (d .rule)) (entryOf time upper bytes)))
-
--- close(self, buf)
-abbrev pub Close : Draft → List ℕ → Step → List ℕ → Type 0
-Close d buf₀ r buf₁ = (r ≡ closeStep d (length buf₀)) × (buf₁ ≡ bufAfter r buf₀ 0 (counterBytes d))
 
 pub close-once : (d : Draft) (buf₀ : List ℕ) (r r′ : Step) (buf₁ buf₁′ : List ℕ) → Close d buf₀ r buf₁ → Close d buf₀ r′ buf₁′
     → (r ≡ r′) × (buf₁ ≡ buf₁′)
