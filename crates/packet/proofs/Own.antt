@@ -67,7 +67,7 @@ length-of : (w : List ℕ) (at : ℕ) → packetIn w at .length ≡ packetLength
 unfolding packetIn
 length-of w at = refl
 
-accepted-length : (buf : List ℕ) (s e : ℕ) (p : Packet) → AcceptedAt buf s e p → p .length ≡ packetLength (window buf s e)
+pub accepted-length : (buf : List ℕ) (s e : ℕ) (p : Packet) → AcceptedAt buf s e p → p .length ≡ packetLength (window buf s e)
 accepted-length buf s e p at = ap (λ (q : Packet). q .length) (at .packet) ∙ length-of (window buf s e) s
 
 -- an accepted packet is longer than its header, and all of it stands in its window

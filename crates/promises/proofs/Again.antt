@@ -24,7 +24,7 @@ use Rattle.packet_bytes.specs.Bytes.{headWords, headBytes, secondaryWords, seco
 use Rattle.packet.specs.Read.{window, packetIn, bodyChecked, readPacket}
 use Rattle.packet.specs.declared.Packet.{Packet}
 use Rattle.packet.specs.declared.PacketRead.the-variants.{Accepted}
-use Rattle.packet.proofs.Own.{accepted-at}
+use Rattle.packet.proofs.Own.{accepted-at, accepted-length}
 use Rattle.promises.specs.Contents.{Contents, Typed, packetOf, Accepts, contentsOf}
 use Rattle.promises.proofs.Writer.{lengthIn, Right, right-accepts}
 
@@ -208,10 +208,6 @@ contents-there buf s e k r =
     part-part buf s (e - s) (bodyAt (flagsIn w)) (dataLength w) (omega (arith, k .parts, k .there)) in
     λ i. record { fields = fieldsIn w; body = sym p i }
 
-length-there : (w : List ℕ) (at : ℕ) → packetIn w at .length ≡ packetLength w
-unfolding packetIn
-length-there w at = refl
-
 -- the writer accepts what was read, and writes the bytes that were read
 pub read-again : (buf : List ℕ) (s e : ℕ) (p : Packet) → Bytes buf → readPacket buf s e ≡ Accepted p
     → Accepts (contentsOf buf p) × (packetOf (contentsOf buf p) ≡ part buf s (p .length))
@@ -222,7 +218,7 @@ read-again buf s e p b h =
     let f = framed-says w (a .opens .framed) in
     let bw = bytes-part buf s (e - s) b in
     let c : contentsOf buf p ≡ contentsIn w = ap (contentsOf buf) (a .packet) ∙ contents-there buf s e k (a .opens .reach) in
-    let n : p .length ≡ packetLength w = ap (λ (q : Packet). q .length) (a .packet) ∙ length-there w s in
+    let n = accepted-length buf s e p a in
     let t : take (packetLength w) w ≡ part buf s (packetLength w) =
     take-take (packetLength w) (e - s) (drop s buf) (omega (arith, k .there, a .opens .reach)) in (
       subst Accepts (sym c) (right-accepts (contentsIn w) (again-typed w bw f) (again-right w bw f (a .count) (a .body))),
