@@ -11,6 +11,7 @@ use packet::list_messages;
 use packet::message;
 use packet::read_packet;
 use packet::write_packet;
+use recording::read_recording;
 use report::bytes::show_bytes;
 use report::show;
 use report::show_entries;
@@ -69,6 +70,21 @@ pub fn show_read(buf: &[u8], start: usize, end: usize) -> bool {
     match read_packet(buf, start, end) {
         PacketRead::Accepted(p) => show_packet(p),
         PacketRead::Refused(f) => show_refusal(f),
+    }
+    true
+}
+
+// What the recording reader says of a window: the number accepted, the place reached, and the refusal, which is all 0 and is not
+// shown at the exact end; true, as the line is a case.
+pub fn show_recording(buf: &[u8], start: usize, end: usize) -> bool {
+    let r = read_recording(buf, start, end);
+    let f = r.refusal;
+    show(
+        b"  accepted=# reached=#\n",
+        &[r.accepted as u64, r.reached as u64],
+    );
+    if (f.number != 0) | (f.place != 0) | (f.room != 0) {
+        show_refusal(f);
     }
     true
 }

@@ -6,10 +6,12 @@ use packet::PacketRead;
 use packet::PacketWrite;
 use packet::read_packet;
 use packet::write_packet;
+use recording::read_recording;
 use report::runs::Outcome;
 use report::runs::follow;
 use report::runs::no_run;
 use report::runs::show_run;
+use report::runs::single;
 use units::data_sum;
 use words::low_byte;
 
@@ -23,29 +25,38 @@ pub struct Summed {
 // What the reader says of a window.
 fn read_outcome(buf: &[u8], start: usize, end: usize) -> Outcome {
     match read_packet(buf, start, end) {
-        PacketRead::Accepted(p) => Outcome {
-            number: 0,
-            value: p.length as u64,
-        },
-        PacketRead::Refused(f) => Outcome {
-            number: f.number as u64,
-            value: f.place as u64,
-        },
+        PacketRead::Accepted(p) => single(0, p.length as u64),
+        PacketRead::Refused(f) => single(f.number as u64, f.place as u64),
     }
+}
+
+// What the recording reader says of a window.
+fn recording_outcome(buf: &[u8], start: usize, end: usize) -> Outcome {
+    let r = read_recording(buf, start, end);
+    let f = r.refusal;
+    Outcome {
+        whole: true,
+        accepted: r.accepted as u64,
+        reached: r.reached as u64,
+        number: f.number as u64,
+        value: f.place as u64,
+    }
+}
+
+// What is said of a window, as one packet or as a whole recording.
+fn outcome(buf: &[u8], start: usize, end: usize, whole: bool) -> Outcome {
+    if whole {
+        return recording_outcome(buf, start, end);
+    }
+    read_outcome(buf, start, end)
 }
 
 // What the writer says, with an output of 4,096 bytes.
 fn write_outcome(fields: Fields, body: &[u8]) -> Outcome {
     let mut out = io::buffer();
     match write_packet(fields, body, &mut out) {
-        PacketWrite::Written(n) => Outcome {
-            number: 0,
-            value: n as u64,
-        },
-        PacketWrite::Unwritten(f) => Outcome {
-            number: f.number as u64,
-            value: f.place as u64,
-        },
+        PacketWrite::Written(n) => single(0, n as u64),
+        PacketWrite::Unwritten(f) => single(f.number as u64, f.place as u64),
     }
 }
 
@@ -114,15 +125,15 @@ pub fn sweep_ends(buf: &[u8], start: usize, end: usize)
     show_run(run);
 }
 
-// Reads a window with `change` added to one byte, for each of its bytes.
-pub fn sweep_bytes(buf: &mut [u8], start: usize, end: usize, change: u8)
+// Reads a window, as one packet or as a whole recording, with `change` added to one byte, for each of its bytes.
+pub fn sweep_bytes(buf: &mut [u8], start: usize, end: usize, change: u8, whole: bool)
     requires { ⌜ (start ≤ end) × (end ≤ length (now buf)) ⌝ }
 {
     let mut run = no_run();
     for at in start..end {
         let before = buf[at];
         buf[at] = std::num::wrapping_add_u8(before, change);
-        run = follow(run, at as u64, read_outcome(buf, start, end));
+        run = follow(run, at as u64, outcome(buf, start, end, whole));
         buf[at] = before;
     }
     show_run(run);

@@ -8,6 +8,7 @@ use packet::read_packet;
 use packet_report::show::show_list;
 use packet_report::show::show_message;
 use packet_report::show::show_read;
+use packet_report::show::show_recording;
 use packet_report::show::show_write;
 use packet_report::sweep::Summed;
 use packet_report::sweep::mend;
@@ -133,6 +134,15 @@ fn read_case(line: &[u8], buf: &[u8]) -> bool {
     show_read(buf, window.start, window.end)
 }
 
+// `recording START END`
+fn recording_case(line: &[u8], buf: &[u8]) -> bool {
+    let window = window_at(line, 1);
+    if !window.good {
+        return false;
+    }
+    show_recording(buf, window.start, window.end)
+}
+
 // `list R Q START END`
 fn list_case(line: &[u8], buf: &[u8]) -> bool {
     let r = decimal_at(line, 1, 0, 5);
@@ -206,14 +216,14 @@ fn ends_case(line: &[u8], buf: &[u8]) -> bool {
     true
 }
 
-// `spoil CHANGE START END`
-fn spoil_case(line: &[u8], buf: &mut [u8]) -> bool {
+// `spoil CHANGE START END`, and `spoils` for the whole recording
+fn spoil_case(line: &[u8], buf: &mut [u8], whole: bool) -> bool {
     let change = decimal_at(line, 1, 0, 255);
     let window = window_within(line, 2, buf.len());
     if !(change.good & window.good) {
         return false;
     }
-    sweep_bytes(buf, window.start, window.end, change.value as u8);
+    sweep_bytes(buf, window.start, window.end, change.value as u8, whole);
     true
 }
 
@@ -317,10 +327,10 @@ fn vary_case(line: &[u8], data: &[u8]) -> bool {
 // The commands that take bytes, by their places in the list of commands: whether the line is such a case.
 fn use_bytes(which: usize, line: &[u8], buf: &mut [u8], data: &[u8]) -> bool {
     match which {
-        9 => put_case(line, buf, data),
-        10 => write_case(line, buf, data),
-        11 => fill_case(line, buf, data),
-        12 => vary_case(line, data),
+        11 => put_case(line, buf, data),
+        12 => write_case(line, buf, data),
+        13 => fill_case(line, buf, data),
+        14 => vary_case(line, data),
         _ => false,
     }
 }
@@ -336,6 +346,15 @@ fn run_bytes(which: usize, line: &[u8], buf: &mut [u8]) -> bool {
     use_bytes(which, line, buf, &bytes[0..end])
 }
 
+// The commands on a whole recording, and those behind them in the list.
+fn run_whole(which: usize, line: &[u8], buf: &mut [u8]) -> bool {
+    match which {
+        9 => recording_case(line, buf),
+        10 => spoil_case(line, buf, true),
+        _ => run_bytes(which, line, buf),
+    }
+}
+
 // The commands but `buffer`, by their places in the list: whether the line is a case.
 fn run_step(which: usize, line: &[u8], buf: &mut [u8]) -> bool {
     match which {
@@ -345,9 +364,9 @@ fn run_step(which: usize, line: &[u8], buf: &mut [u8]) -> bool {
         4 => message_case(line, buf),
         5 => again_case(line, buf),
         6 => ends_case(line, buf),
-        7 => spoil_case(line, buf),
+        7 => spoil_case(line, buf, false),
         8 => values_case(line, buf),
-        _ => run_bytes(which, line, buf),
+        _ => run_whole(which, line, buf),
     }
 }
 
@@ -366,11 +385,11 @@ fn buffer_case(line: &[u8], room: &mut [u8], size: usize) -> usize {
 }
 
 // Which command a line is: its place in the list of each command's number of words and its name (0 buffer, 1 mend, 2 read,
-// 3 list, 4 message, 5 again, 6 ends, 7 spoil, 8 values, 9 put, 10 write, 11 fill, 12 vary).
+// 3 list, 4 message, 5 again, 6 ends, 7 spoil, 8 values, 9 recording, 10 spoils, 11 put, 12 write, 13 fill, 14 vary).
 fn which_command(line: &[u8]) -> usize {
     command(
         line,
-        b"2 buffer 4 mend 3 read 5 list 4 message 3 again 3 ends 4 spoil 7 values 3 put 9 write 11 fill 10 vary",
+        b"2 buffer 4 mend 3 read 5 list 4 message 3 again 3 ends 4 spoil 7 values 3 recording 4 spoils 3 put 9 write 11 fill 10 vary",
     )
 }
 

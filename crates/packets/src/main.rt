@@ -1,5 +1,5 @@
-// Runs the cases on standard input through the library `packet`: each line is written again, with its outcome behind it
-// where it is a case. The cases share a buffer; places are counted from its first byte, and N is up to 1,100,000.
+// Runs the cases on standard input through the libraries `packet` and `recording`: each line is written again, with its outcome
+// behind it where it is a case. The cases share a buffer; places are counted from its first byte, and N is up to 1,100,000.
 //
 //     buffer N                       makes the buffer anew: N bytes, all EE
 //     put AT BYTES                   puts bytes into it
@@ -12,6 +12,8 @@
 //     spoil CHANGE START END         reads with CHANGE added to one byte, for every byte from START to END
 //     values AT CODE FROM TO START END
 //                                    reads with every value of the byte AT, and the sum mended
+//     recording START END            reads a whole recording: the number accepted, the place reached, the refusal (none at the exact end)
+//     spoils CHANGE START END        the same with CHANGE added to one byte, for every byte from START to END
 //     write FIELDS BYTES             writes a packet with this body at the buffer's first byte; all of the buffer follows
 //     fill FIELDS N STEP BYTES       the same with a body of N bytes, up to 1,000,000: BYTES, then each the one STEP ahead of it
 //     vary FIELDS WHICH BYTES        writes, into an output of its own, with every value of the version (WHICH 0), the flags (1) or the type (2)

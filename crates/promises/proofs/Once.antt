@@ -20,7 +20,7 @@ use Rattle.packet.specs.declared.PacketMessage.{PacketMessage}
 use Rattle.packet.specs.declared.PacketWrite.{PacketWrite}
 use Rattle.recording.specs.Reading.{readRecording}
 use Rattle.recording.specs.declared.Recording.{Recording}
-use Rattle.promises.specs.Calls.{ReadPacket, ListMessages, Message, WritePacket, ReadRecording, Fresh, Open, Add, Close}
+use Rattle.promises.specs.Calls.{ReadPacket, ListMessages, GiveMessage, WritePacket, ReadRecording, Fresh, Open, Add, Close}
 
 -- ---- an outcome: a result that is `given`, alone or with one slice that is `after` it
 
@@ -53,7 +53,7 @@ list-messages-once buf start end starts₀ lengths₀ r r′ starts₁ starts₁
     let l = with-once given (λ x. listAfter x (lengths (window buf start end)) lengths₀) r r′ lengths₁ lengths₁′ (h .0, h .2) (h′ .0, h′ .2) in
     (s .0, s .1, l .1)
 
-pub message-once : (buf : List ℕ) (start end number : ℕ) (r r′ : PacketMessage) → Message buf start end number r → Message buf start end number r′ → r ≡ r′
+pub message-once : (buf : List ℕ) (start end number : ℕ) (r r′ : PacketMessage) → GiveMessage buf start end number r → GiveMessage buf start end number r′ → r ≡ r′
 message-once buf start end number = only-once (messagePacket buf start end number)
 
 pub write-packet-once : (fields : Fields) (body out₀ : List ℕ) (r r′ : PacketWrite) (out₁ out₁′ : List ℕ)

@@ -35,8 +35,8 @@ ListMessages buf start end starts₀ lengths₀ r starts₁ lengths₁ =
     × (lengths₁ ≡ listAfter r (lengths (window buf start end)) lengths₀)
 
 -- message(buf, start, end, number)
-abbrev pub Message : List ℕ → ℕ → ℕ → ℕ → PacketMessage → Type 0
-Message buf start end number r = r ≡ messagePacket buf start end number
+abbrev pub GiveMessage : List ℕ → ℕ → ℕ → ℕ → PacketMessage → Type 0
+GiveMessage buf start end number r = r ≡ messagePacket buf start end number
 
 -- write_packet(fields, body, out): the output at entry, the result, and the output at exit
 abbrev pub WritePacket : Fields → List ℕ → List ℕ → PacketWrite → List ℕ → Type 0

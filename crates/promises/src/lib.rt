@@ -1,2 +1,76 @@
-// The three demands, as theorems on the definitions that the contracts of the calls cite: proofs/Demand1.antt, Demand2.antt and
-// Demand3.antt. What they speak of beside those definitions is in specs/.
+// The three demands are theorems: specs/Demand1.antt, Demand2.antt and Demand3.antt, on the definitions that the contracts of the
+// public calls cite. The functions here tie them to the code: each is a public call, and promises of it what specs/Calls.antt says.
+ghost use Rattle.promises.specs.Calls.{ReadPacket, ListMessages, GiveMessage, WritePacket, ReadRecording, Fresh, Open, Add, Close};
+use builder::Draft;
+use builder::Step;
+use frame::Fields;
+use packet::PacketList;
+use packet::PacketMessage;
+use packet::PacketRead;
+use packet::PacketWrite;
+use packet::list_messages;
+use packet::message;
+use packet::read_packet;
+use packet::write_packet;
+use recording::Recording;
+use recording::read_recording;
+
+pub fn reads_packet(buf: &[u8], start: usize, end: usize) -> PacketRead
+    ensures { λ r. ⌜ ReadPacket (now (buf .entry)) start end r ⌝ }
+{
+    read_packet(buf, start, end)
+}
+
+pub fn lists_messages(
+    buf: &[u8],
+    start: usize,
+    end: usize,
+    starts: &mut [u32],
+    lengths: &mut [u32],
+) -> PacketList
+    ensures { λ r. ⌜ ListMessages (now (buf .entry)) start end (now (starts .entry)) (now (lengths .entry)) r (now (starts .exit)) (now (lengths .exit)) ⌝ }
+{
+    list_messages(buf, start, end, starts, lengths)
+}
+
+pub fn gives_message(buf: &[u8], start: usize, end: usize, number: usize) -> PacketMessage
+    ensures { λ r. ⌜ GiveMessage (now (buf .entry)) start end number r ⌝ }
+{
+    message(buf, start, end, number)
+}
+
+pub fn writes_packet(fields: Fields, body: &[u8], out: &mut [u8]) -> PacketWrite
+    ensures { λ r. ⌜ WritePacket fields (now (body .entry)) (now (out .entry)) r (now (out .exit)) ⌝ }
+{
+    write_packet(fields, body, out)
+}
+
+pub fn reads_recording(buf: &[u8], start: usize, end: usize) -> Recording
+    ensures { λ r. ⌜ ReadRecording (now (buf .entry)) start end r ⌝ }
+{
+    read_recording(buf, start, end)
+}
+
+pub fn starts_fresh() -> Draft
+    ensures { λ r. ⌜ Fresh r ⌝ }
+{
+    Draft::fresh()
+}
+
+pub fn opens_body(draft: Draft, buf: &mut [u8], kind: u8, rule: u8) -> Step
+    ensures { λ r. ⌜ Open draft (now (buf .entry)) kind rule r (now (buf .exit)) ⌝ }
+{
+    draft.open(buf, kind, rule)
+}
+
+pub fn adds_block(draft: Draft, buf: &mut [u8], time: u64, upper: u16, bytes: &[u8]) -> Step
+    ensures { λ r. ⌜ Add draft (now (buf .entry)) time upper (now (bytes .entry)) r (now (buf .exit)) ⌝ }
+{
+    draft.add(buf, time, upper, bytes)
+}
+
+pub fn closes_body(draft: Draft, buf: &mut [u8]) -> Step
+    ensures { λ r. ⌜ Close draft (now (buf .entry)) r (now (buf .exit)) ⌝ }
+{
+    draft.close(buf)
+}

@@ -7,10 +7,10 @@ use Rattle.packet_report.proofs.sweep.sweep_bytes.Statement.{statement}
 use Rattle.packet_report.proofs.sweep.sweep_bytes.Tie as tie
 
 abbrev Inv-loop : tie.InvT-loop
-Inv-loop buf₀ start end change run₀ at₀ buf run at = (at ≤ end) × (length buf ≡ length buf₀)
+Inv-loop buf₀ start end change whole run₀ at₀ buf run at = (at ≤ end) × (length buf ≡ length buf₀)
 
 abbrev μ-loop : tie.MeasureT-loop
-μ-loop buf₀ start end change run₀ at₀ buf run at = end - at
+μ-loop buf₀ start end change whole run₀ at₀ buf run at = end - at
 
 pub sweep-bytes-spec : {M : Type 1} → statement M
 sweep-bytes-spec =
