@@ -1,20 +1,22 @@
 -- A packet that the writer accepts, altered in a single unit, is refused with the number that names it, whatever stands behind it;
 -- and no byte that the demand speaks of is in none of the units. Assumes nothing.
-use mathlib.Core.Path.{_≡_, refl, sym, ap, _∙_}
+use mathlib.Core.Path.{_≡_, refl, sym, ap, subst, _∙_}
 use mathlib.Core.List.{List, _++_, append-assoc}
-use mathlib.Core.Logic.{_⊎_, inl, inr}
+use mathlib.Core.Logic.{_⊎_, inl, inr, ⊎-elim, _≢_}
 use Prim.Native.Nat.{ℕ, zero, suc, _+_, _-_, _*_, _/_, _%_, _≤_, _<_}
 use native.Mathlib.Omega.{arith}
 use native.Mathlib.Decide.{decLt}
 use lib.ListN.{length, take, drop, length-drop, take-append-drop}
 use lib.Seq.{take-at, length-take-le, drop-drop, getD-take, getD-drop, ext-getD}
-use Rattle.units.specs.Units.{Bytes, part, sumWidth, Changed}
+use Rattle.units.specs.Units.{Bytes, part, splice, sumWidth, Changed}
+use Rattle.units.proofs.Numbers.{bytes-append, bytes-take, bytes-drop}
+use Rattle.units.proofs.Writes.{length-splice, drop-splice, part-splice-before}
 use Rattle.units.proofs.Parts.{length-part, bytes-part}
-use Rattle.frame.specs.Header.{packetLength, flagsIn, fieldsIn, sumLength, bodyAt}
+use Rattle.frame.specs.Header.{byte, packetLength, flagsIn, fieldsIn, sumLength, bodyAt}
 use Rattle.frame.specs.declared.Fields.{Fields}
 use Rattle.frame.specs.Table.{first, frameLines}
 use Rattle.frame.proofs.Frames.{Framed, framed-says, framed-passes, flags-front, packet-length-front, frame-front, OfFront}
-use Rattle.promises.specs.Contents.{Contents, packetOf, Accepts}
+use Rattle.promises.specs.Contents.{Contents, Typed, packetOf, Accepts}
 use Rattle.promises.specs.Altered.{flagsOf, UnitOf, sync, primary, secondary, trailer, AlteredAt, Altered}
 use Rattle.promises.proofs.Writer.{lengthIn, length-of, accepts-right}
 use Rattle.promises.proofs.Written.{written-bytes, written-length, written-fields, written-framed, written-sound}
@@ -74,6 +76,12 @@ changed-front at n xs ys t c =
       differs = c .differs;
     }
 
+unit-room : (c : Contents) (n at width : ℕ) → UnitOf c n at width → at + width ≤ length (packetOf c)
+unit-room c n at width sync = omega (arith, length-of c)
+unit-room c n _ width (primary j some most) = omega (arith, length-of c)
+unit-room c n _ width (secondary j most) = omega (arith, length-of c)
+unit-room c n _ width (trailer j some most) = most
+
 module _ (c : Contents) (a : Accepts c) (rest : List ℕ) where
   abbrev whole : List ℕ
   whole = packetOf c ++ rest
@@ -98,12 +106,6 @@ module _ (c : Contents) (a : Accepts c) (rest : List ℕ) where
   bytes-in : Bytes (take (packetLength whole) whole)
   bytes-in = rw (length-in, take-at (packetOf c) rest (length (packetOf c)) refl) (written-bytes c (a .typed))
 
-  unit-room : (n at width : ℕ) → UnitOf c n at width → at + width ≤ length (packetOf c)
-  unit-room n at width sync = omega (arith, length-of c)
-  unit-room n _ width (primary j some most) = omega (arith, length-of c)
-  unit-room n _ width (secondary j most) = omega (arith, length-of c)
-  unit-room n _ width (trailer j some most) = most
-
   unit-refused : (n at width : ℕ) (v : List ℕ) → UnitOf c n at width → Changed at width whole v → first (frameLines v) ≡ n
   unit-refused n at width v sync ch = sync-refused whole v bytes-in framed-in ch
   unit-refused n _ width v (primary j some most) ch = primary-refused whole v bytes-in framed-in j some (omega arith) ch
@@ -114,8 +116,46 @@ module _ (c : Contents) (a : Accepts c) (rest : List ℕ) where
   -- whatever stands behind it
   pub altered-refused : (n : ℕ) (ys : List ℕ) → Altered c n ys → first (frameLines (ys ++ rest)) ≡ n
   altered-refused n ys h =
-      let ch = changed-at (h .place) (h .width) (packetOf c) ys (unit-room n (h .place) (h .width) (h .unit)) (h .change) in
+      let ch = changed-at (h .place) (h .width) (packetOf c) ys (unit-room c n (h .place) (h .width) (h .unit)) (h .change) in
       unit-refused n (h .place) (h .width) (ys ++ rest) (h .unit) (changed-front (h .place) (h .width) (packetOf c) ys rest ch)
+
+-- ---- no change of a unit is left out
+
+spliced : (xs : List ℕ) (at : ℕ) (new : List ℕ) → at + length new ≤ length xs → Bytes xs → Bytes new → splice xs at new ≢ xs
+    → AlteredAt at (length new) xs (splice xs at new)
+spliced xs at new room old-bytes new-bytes other =
+    record {
+      long = length-splice xs at new room;
+      bytes =
+          bytes-append (take at xs ++ new) (drop (at + length new) xs) (bytes-append (take at xs) new (bytes-take at xs old-bytes) new-bytes)
+          (bytes-drop (at + length new) xs old-bytes);
+      same = λ i h. ⊎-elim (before i) (behind i) h;
+      differs = other;
+    }
+  where
+    before : (i : ℕ) → i < at → byte (splice xs at new) i ≡ byte xs i
+    before i h =
+        sym (getD-take at (splice xs at new) i 0 h)
+        ∙ ap (λ (l : List ℕ). byte l i) (part-splice-before xs at new room 0 at (omega arith))
+        ∙ getD-take at xs i 0 h
+
+    behind : (i : ℕ) → at + length new ≤ i → byte (splice xs at new) i ≡ byte xs i
+    behind i h =
+        let e : at + length new + (i - (at + length new)) ≡ i = omega arith in
+        subst (λ (k : ℕ). byte (splice xs at new) k ≡ byte xs k) e
+        (sym (getD-drop (at + length new) (splice xs at new) (i - (at + length new)) 0)
+        ∙ ap (λ (l : List ℕ). byte l (i - (at + length new))) (drop-splice xs at new room)
+        ∙ getD-drop (at + length new) xs (i - (at + length new)) 0)
+
+pub change-named : (c : Contents) → Typed c → (n at width : ℕ) → UnitOf c n at width → (new : List ℕ) → length new ≡ width → Bytes new
+    → splice (packetOf c) at new ≢ packetOf c → Altered c n (splice (packetOf c) at new)
+change-named c t n at width u new long new-bytes other =
+    record {
+      place = at;
+      width = width;
+      unit = u;
+      change = rw (← long) (spliced (packetOf c) at new (omega (arith, unit-room c n at width u)) (written-bytes c t) new-bytes other);
+    }
 
 -- ---- no byte is left out
 

@@ -23,7 +23,7 @@ use Rattle.recording.specs.Reading.{Reading, reading, readRecording}
 use Rattle.recording.specs.Handed.{HandsOut}
 use Rattle.recording.proofs.HandedOut.{hands-out, hands-out-once, recording-numbered, reading-window, recording-window}
 use Rattle.promises.specs.Endings.{readTold}
-use Rattle.promises.specs.Demand1.{Alike, Kept, Demand1}
+use Rattle.promises.specs.Demand1.{Alike, ListKept, Demand1}
 use Rattle.promises.proofs.Ends.{above, accepted-is, read-ends, read-placed, list-ends, message-ends}
 
 -- ---- the window
@@ -60,8 +60,8 @@ behind a b start end end′ p is reaches in-b same =
 -- ---- lent memory
 
 kept : (buf : List ℕ) (start end : ℕ) (starts₀ lengths₀ : List ℕ)
-    → Kept (listPacket buf start end (length starts₀) (length lengths₀)) (starts (window buf start end)) starts₀
-    × Kept (listPacket buf start end (length starts₀) (length lengths₀)) (lengths (window buf start end)) lengths₀
+    → ListKept (listPacket buf start end (length starts₀) (length lengths₀)) (starts (window buf start end)) starts₀
+    × ListKept (listPacket buf start end (length starts₀) (length lengths₀)) (lengths (window buf start end)) lengths₀
 kept buf start end starts₀ lengths₀ =
     let r = listPacket buf start end (length starts₀) (length lengths₀) in
     let w = window buf start end in

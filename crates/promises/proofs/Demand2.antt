@@ -16,9 +16,9 @@ use Rattle.packet.specs.declared.PacketWrite.{PacketWrite}
 use Rattle.packet.specs.declared.PacketWrite.the-variants.{Written}
 use Rattle.packet.proofs.Told.{read-told}
 use Rattle.packet.proofs.Own.{accepted-at, fits, together}
-use Rattle.promises.specs.Contents.{Contents, Typed, packetOf, contentsOf}
+use Rattle.promises.specs.Contents.{Contents, Typed, packetOf, outputOf, contentsOf}
 use Rattle.promises.specs.Endings.{readTold, writtenTold}
-use Rattle.promises.specs.Demand2.{bytesIn, outputOf, Demand2}
+use Rattle.promises.specs.Demand2.{bytesIn, Demand2}
 use Rattle.promises.proofs.Ends.{accepted-is}
 use Rattle.promises.proofs.Writer.{lengthIn, Right, written-says, right-written, right-accepts, accepts-right, length-of}
 use Rattle.promises.proofs.Written.{read-written}

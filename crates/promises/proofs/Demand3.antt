@@ -5,16 +5,17 @@ use mathlib.Core.Logic.{_≢_}
 use Prim.Native.Nat.{ℕ, _+_, _≤_, _<_}
 use native.Mathlib.Omega.{arith}
 use native.Mathlib.Nat.{sub-zero}
-use lib.ListN.{length}
-use lib.Seq.{take-length}
+use lib.ListN.{length, take, drop}
+use lib.Seq.{take-at, drop-at, take-length}
 use Rattle.body.specs.Walk.{refused}
 use Rattle.packet.specs.Read.{window, noRefusal}
+use Rattle.recording.specs.declared.Recording.{Recording}
 use Rattle.recording.proofs.HandedOut.{hands-out-once}
 use Rattle.promises.specs.Contents.{Contents, packetOf, Accepts, AllAccepted, nil, cons, written, contentsOf}
-use Rattle.promises.specs.Altered.{Altered, Pieces, none, kept, altered, FirstAltered}
+use Rattle.promises.specs.Altered.{Altered, Pieces, none, intact, altered, FirstAltered}
 use Rattle.promises.specs.ReadsAs.{ReadsAs}
 use Rattle.promises.specs.Demand3.{Demand3}
-use Rattle.promises.proofs.Alterations.{every-byte-named}
+use Rattle.promises.proofs.Alterations.{change-named, every-byte-named}
 use Rattle.promises.proofs.Recordings.{reads-to-end, reads-to-altered}
 
 -- ---- a list as it was written
@@ -46,23 +47,23 @@ different cs ds gc gd other same =
 one-is-first : {cs : List Contents} {k : ℕ} {bs : List ℕ} → Pieces cs k bs → 0 < k → FirstAltered cs bs
 unfolding written
 one-is-first none some = absurd (omega arith)
-one-is-first (kept {c} {cs} {k} {bs} a p) some =
+one-is-first (intact {c} {cs} {k} {bs} a p) some =
     let f = one-is-first p some in
     record {
       before = c ∷ f .before;
       first = f .first;
       behind = f .behind;
       number = f .number;
-      packet = f .packet;
+      found = f .found;
       rest = f .rest;
       list = ap (λ (l : List Contents). c ∷ l) (f .list);
-      intact = cons a (f .intact);
-      accepted = f .accepted;
-      spoilt = f .spoilt;
-      bytes = ap (λ (l : List ℕ). packetOf c ++ l) (f .bytes) ∙ sym (append-assoc (packetOf c) (written (f .before)) (f .packet ++ f .rest));
+      written-before = cons a (f .written-before);
+      writable = f .writable;
+      alteration = f .alteration;
+      bytes = ap (λ (l : List ℕ). packetOf c ++ l) (f .bytes) ∙ sym (append-assoc (packetOf c) (written (f .before)) (f .found ++ f .rest));
     }
 one-is-first (altered {c} {n} {ys} {cs} {k} {bs} a h p) some =
-    record { before = []; first = c; behind = cs; number = n; packet = ys; rest = bs; list = refl; intact = nil; accepted = a; spoilt = h; bytes = refl }
+    record { before = []; first = c; behind = cs; number = n; found = ys; rest = bs; list = refl; written-before = nil; writable = a; alteration = h; bytes = refl }
 
 stops : (before : List Contents) → AllAccepted before → (c : Contents) → Accepts c → (n : ℕ) (ys : List ℕ) → Altered c n ys
     → (rest buf : List ℕ) (start end : ℕ) → start ≤ end → end ≤ length buf → window buf start end ≡ written before ++ (ys ++ rest)
@@ -73,7 +74,23 @@ stops before good c a n ys h rest buf start end order within holds =
 untouched : {cs : List Contents} {bs : List ℕ} → Pieces cs 0 bs → AllAccepted cs × (bs ≡ written cs)
 unfolding written
 untouched none = (nil, refl)
-untouched (kept {c} a p) = let (good, same) = untouched p in (cons a good, ap (λ (l : List ℕ). packetOf c ++ l) same)
+untouched (intact {c} a p) = let (good, same) = untouched p in (cons a good, ap (λ (l : List ℕ). packetOf c ++ l) same)
+
+first-once : (cs : List Contents) (bs : List ℕ) (f g : FirstAltered cs bs)
+    → (f .before ≡ g .before) × (f .first ≡ g .first) × (f .behind ≡ g .behind) × (f .number ≡ g .number)
+first-once cs bs f g =
+    let reads : (h : FirstAltered cs bs)
+    → ReadsAs bs 0 (length bs) (h .before) (0 + length (written (h .before))) (refused (h .number) (0 + length (written (h .before))) 0) =
+    λ h. stops (h .before) (h .written-before) (h .first) (h .writable) (h .number) (h .found) (h .alteration) (h .rest) bs 0 (length bs)
+    (omega arith) (omega arith) (rw (sub-zero (length bs)) (take-length bs) ∙ h .bytes) in
+    let e = sym (reads f .answer) ∙ reads g .answer in
+    let n : length (f .before) ≡ length (g .before) = ap (λ (r : Recording). r .accepted) e in
+    let s : f .before ++ (f .first ∷ f .behind) ≡ g .before ++ (g .first ∷ g .behind) = sym (f .list) ∙ g .list in
+    let b : f .before ≡ g .before =
+    sym (take-at (f .before) _ (length (f .before)) refl) ∙ ap (take (length (f .before))) s ∙ take-at (g .before) _ (length (f .before)) (sym n) in
+    let d : f .first ∷ f .behind ≡ g .first ∷ g .behind =
+    sym (drop-at (f .before) _ (length (f .before)) refl) ∙ ap (drop (length (f .before))) s ∙ drop-at (g .before) _ (length (f .before)) (sym n) in
+    (b, cc d, cc d, ap (λ (r : Recording). r .refusal .number) e)
 
 pub demand-3 : Demand3
 demand-3 =
@@ -83,8 +100,10 @@ demand-3 =
       altered-list =
           λ cs k bs p some buf start end order within holds.
           let f = one-is-first p some in
-          (f, stops (f .before) (f .intact) (f .first) (f .accepted) (f .number) (f .packet) (f .spoilt) (f .rest) buf start end order within (holds ∙ f .bytes));
+          (f, stops (f .before) (f .written-before) (f .first) (f .writable) (f .number) (f .found) (f .alteration) (f .rest) buf start end order within (holds ∙ f .bytes));
       stops-at-altered = stops;
+      first-once = first-once;
       none-altered = λ cs bs p. untouched p;
+      every-change-named = change-named;
       every-byte-named = every-byte-named;
     }

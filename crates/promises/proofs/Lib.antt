@@ -8,7 +8,9 @@ pub mod Alterations
 pub mod Recordings
 pub mod Ends
 pub mod Starred
+pub mod Examples
 pub mod Once
 pub mod Demand1
 pub mod Demand2
 pub mod Demand3
+pub mod Document01

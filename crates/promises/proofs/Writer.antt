@@ -101,8 +101,8 @@ pub length-of : (c : Contents) → length (packetOf c) ≡ lengthIn c
 length-of c = length-packet (c .fields) (c .body)
 
 pub accepts-right : (c : Contents) → Accepts c → Right c
-accepts-right c a = written-says c (length (packetOf c)) (a .written) .0
+accepts-right c a = written-says c (a .room) (a .writes) .0
 
 pub right-accepts : (c : Contents) → Typed c → Right c → Accepts c
 right-accepts c t r =
-    record { typed = t; written = rw (right-written c (length (packetOf c)) r (omega (arith, length-of c))) }
+    record { typed = t; room = lengthIn c; writes = rw (right-written c (lengthIn c) r (omega arith)) }

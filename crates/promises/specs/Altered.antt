@@ -40,7 +40,7 @@ pub record Altered (c : Contents) (n : ℕ) (ys : List ℕ) : Type 0 where
 -- contents that the writer accepts, written end to end, each packet left as it is or altered in a single unit; k of them are altered
 pub data Pieces : List Contents → ℕ → List ℕ → Type 0 where
   none : Pieces [] 0 []
-  kept : {c : Contents} {cs : List Contents} {k : ℕ} {bs : List ℕ} → Accepts c → Pieces cs k bs → Pieces (c ∷ cs) k (packetOf c ++ bs)
+  intact : {c : Contents} {cs : List Contents} {k : ℕ} {bs : List ℕ} → Accepts c → Pieces cs k bs → Pieces (c ∷ cs) k (packetOf c ++ bs)
   altered : {c : Contents} {n : ℕ} {ys : List ℕ} {cs : List Contents} {k : ℕ} {bs : List ℕ} → Accepts c → Altered c n ys → Pieces cs k bs
       → Pieces (c ∷ cs) (suc k) (ys ++ bs)
 
@@ -50,10 +50,10 @@ pub record FirstAltered (cs : List Contents) (bs : List ℕ) : Type 0 where
   pub first : Contents
   pub behind : List Contents
   pub number : ℕ
-  pub packet : List ℕ
+  pub found : List ℕ
   pub rest : List ℕ
   pub list : cs ≡ before ++ (first ∷ behind)
-  pub intact : AllAccepted before
-  pub accepted : Accepts first
-  pub spoilt : Altered first number packet
-  pub bytes : bs ≡ written before ++ (packet ++ rest)
+  pub written-before : AllAccepted before
+  pub writable : Accepts first
+  pub alteration : Altered first number found
+  pub bytes : bs ≡ written before ++ (found ++ rest)

@@ -2,23 +2,26 @@
 use mathlib.Core.Path.{_≡_}
 use mathlib.Core.List.{List, [], _∷_, _++_}
 use Prim.Native.Nat.{ℕ, _+_, _*_, _^_}
-use lib.ListN.{length, take, set, replicate}
-use Rattle.units.specs.Units.{field}
+use lib.ListN.{length, set, replicate}
+use Rattle.units.specs.Units.{splice, field, bytesOf}
 use Rattle.body.specs.Walk.{refused}
+use Rattle.body.specs.Blocks.{blockBytes}
+use Rattle.builder.specs.Build.{stamped, freshDraft, openStep, openWord, addStep, entryOf, bufAfter, told as Builder·told}
+use Rattle.builder.specs.declared.Step.{Step}
 use Rattle.frame.specs.Header.{secondaryIn}
 use Rattle.packet.specs.Read.{partAt, readPacket, noRefusal, noPacket, Told, told}
 use Rattle.packet.specs.Write.{writePacket, WriteTold, writeTold}
 use Rattle.promises.specs.Contents.{Contents, packetOf, written}
 
--- a case: bytes, a window of their own, and what the reader tells; contents, an output of `room` bytes, and what the writer tells;
--- or bytes and the sum in their secondary header
+-- a case: a window, and what the reader tells; contents, an output of `room` bytes, and what the writer tells; or bytes and the sum in
+-- their secondary header
 pub data Case : Type 0 where
-  reads : List ℕ → Told → Case
+  reads : List ℕ → ℕ → ℕ → Told → Case
   writes : Contents → ℕ → WriteTold → Case
   secondarySum : List ℕ → ℕ → Case
 
 abbrev pub Right : Case → Type 0
-Right (reads bytes t) = told (readPacket bytes 0 (length bytes)) ≡ t
+Right (reads buf start end t) = told (readPacket buf start end) ≡ t
 Right (writes c room t) = writeTold (writePacket (c .fields) (c .body) room) ≡ t
 Right (secondarySum bytes sum) = field (secondaryIn bytes) 10 2 ≡ sum
 
@@ -41,9 +44,13 @@ lContents flags time =
       body = 0x00 ∷ 0x00 ∷ 0x00 ∷ 0x00 ∷ 0x03 ∷ 0x00 ∷ 0x00 ∷ 0x00 ∷ 0x41 ∷ 0x42 ∷ 0x43 ∷ 0x00 ∷ [];
     }
 
--- what is told of their packet: P, the header sum, the lengths of secondary header, filler and sum, and the data sum
-abbrev accepted : ℕ → ℕ → ℕ → ℕ → ℕ → ℕ → ℕ → ℕ → Told
-accepted flags time p headsum secondary filler width datasum =
+-- bytes at place 3 of a buffer, with an older L behind them
+abbrev among : List ℕ → List ℕ
+among bytes = 0xEE ∷ 0xEE ∷ 0xEE ∷ (bytes ++ L)
+
+-- what is told of their packet there: P, the header sum, the lengths of secondary header, filler and sum, and the data sum
+abbrev accepts : ℕ → ℕ → ℕ → ℕ → ℕ → ℕ → ℕ → ℕ → Told
+accepts flags time p headsum secondary filler width datasum =
     record {
       refusal = noRefusal;
       packet =
@@ -53,17 +60,17 @@ accepted flags time p headsum secondary filler width datasum =
             datalength = 12;
             headsum = headsum;
             datasum = datasum;
-            header = partAt 0 24;
-            secondary = partAt 24 secondary;
-            body = partAt (24 + secondary) 12;
-            filler = partAt (36 + secondary) filler;
-            sum = partAt (36 + secondary + filler) width;
+            header = partAt 3 24;
+            secondary = partAt 27 secondary;
+            body = partAt (27 + secondary) 12;
+            filler = partAt (39 + secondary) filler;
+            sum = partAt (39 + secondary + filler) width;
           };
     }
 
--- a refusal at the packet's start, 0
+-- a refusal, at the packet's start
 abbrev refuses : ℕ → Told
-refuses number = record { refusal = refused number 0 0; packet = noPacket }
+refuses number = record { refusal = refused number 3 0; packet = noPacket }
 
 -- flags of a secondary header with an IEEE 1588 time and no data sum; a time of 1 second and some nanoseconds
 abbrev pub ieee1588 : ℕ
@@ -75,26 +82,26 @@ second nanoseconds = 1 * 2 ^ 32 + nanoseconds
 unfoldable pub cases : List Case
 cases =
     -- L accepted; its first 39 bytes: 10; first 23: 2; empty window: 2
-    reads L (accepted 2 0 40 0x3B63 0 2 2 17031)
-    ∷ reads (take 39 L) (refuses 10)
-    ∷ reads (take 23 L) (refuses 2)
-    ∷ reads [] (refuses 2)
+    reads (among L) 3 43 (accepts 2 0 40 0x3B63 0 2 2 17031)
+    ∷ reads (among L) 3 42 (refuses 10)
+    ∷ reads (among L) 3 26 (refuses 2)
+    ∷ reads (among L) 3 3 (refuses 2)
     -- L with byte 0 = 0x24: 3; with byte 13 = 1 and nothing else: 4; with byte 32 = 0x40: 13
-    ∷ reads (set L 0 0x24) (refuses 3)
-    ∷ reads (set L 13 1) (refuses 4)
-    ∷ reads (set L 32 0x40) (refuses 13)
+    ∷ reads (among (set L 0 0x24)) 3 43 (refuses 3)
+    ∷ reads (among (set L 13 1)) 3 43 (refuses 4)
+    ∷ reads (among (set L 32 0x40)) 3 43 (refuses 13)
     -- L's body under an 8-bit sum: filler 3, sum 0xC9, P 40
-    ∷ reads (packetOf (lContents 1 0)) (accepted 1 0 40 0x3B62 0 3 1 0xC9)
+    ∷ reads (among (packetOf (lContents 1 0))) 3 43 (accepts 1 0 40 0x3B62 0 3 1 0xC9)
     -- under 32 bits: filler 0, sum 0x00434244, P 40
-    ∷ reads (packetOf (lContents 3 0)) (accepted 3 0 40 0x3B64 0 0 4 0x00434244)
+    ∷ reads (among (packetOf (lContents 3 0))) 3 43 (accepts 3 0 40 0x3B64 0 0 4 0x00434244)
     -- without: P 36
-    ∷ reads (packetOf (lContents 0 0)) (accepted 0 0 36 0x3B5D 0 0 0 0)
+    ∷ reads (among (packetOf (lContents 0 0))) 3 39 (accepts 0 0 36 0x3B5D 0 0 0 0)
     -- 1588 time of 1 s and 2 ns: secondary sum 3
     ∷ secondarySum (packetOf (lContents ieee1588 (second 2))) 3
-    ∷ reads (packetOf (lContents ieee1588 (second 2))) (accepted ieee1588 (second 2) 48 0x3BED 12 0 0 0)
+    ∷ reads (among (packetOf (lContents ieee1588 (second 2)))) 3 51 (accepts ieee1588 (second 2) 48 0x3BED 12 0 0 0)
     -- 999,999,999 ns is accepted, 1,000,000,000 is 12; by the writer too
-    ∷ reads (packetOf (lContents ieee1588 (second 999999999))) (accepted ieee1588 (second 999999999) 48 0x3BED 12 0 0 0)
-    ∷ reads (packetOf (lContents ieee1588 (second 1000000000))) (refuses 12)
+    ∷ reads (among (packetOf (lContents ieee1588 (second 999999999)))) 3 51 (accepts ieee1588 (second 999999999) 48 0x3BED 12 0 0 0)
+    ∷ reads (among (packetOf (lContents ieee1588 (second 1000000000)))) 3 51 (refuses 12)
     ∷ writes (lContents ieee1588 (second 999999999)) 48 (record { refusal = noRefusal; length = 48 })
     ∷ writes (lContents ieee1588 (second 1000000000)) 48 (record { refusal = refused 12 0 0; length = 0 })
     ∷ []
@@ -112,3 +119,28 @@ three = lContents 2 0 ∷ lContents ieee1588 (second 2) ∷ carriedByte ∷ []
 -- from byte 5 to byte 125 of a buffer with other bytes ahead of them and behind
 unfoldable pub threeIn : List ℕ
 threeIn = replicate 5 0xFF ++ (written three ++ replicate 9 0x25)
+
+-- the same with two packets altered: a word of the second's time, and a unit of the third's body and filler
+unfoldable pub twoAltered : List ℕ
+twoAltered =
+    packetOf (lContents 2 0)
+    ++ (splice (packetOf (lContents ieee1588 (second 2))) 24 (0x03 ∷ 0x00 ∷ [])
+    ++ (splice (packetOf carriedByte) 24 (0xAA ∷ 0x01 ∷ 0x00 ∷ 0x00 ∷ [])
+    ++ []))
+
+-- ---- L's body, built in a buffer of 12 bytes: 0x50 opened without a time rule, and the block "ABC" added
+
+abbrev pub block : List ℕ
+block = 0x41 ∷ 0x42 ∷ 0x43 ∷ []
+
+unfoldable pub opened : Step
+opened = openStep freshDraft 0x50 0 12
+
+unfoldable pub bufferOpened : List ℕ
+bufferOpened = bufAfter opened (replicate 12 0xEE) 0 (bytesOf 4 (openWord 0x50 0))
+
+unfoldable pub added : Step
+added = addStep (Builder·told opened .draft) 12 0 3
+
+unfoldable pub bufferAdded : List ℕ
+bufferAdded = bufAfter added bufferOpened (Builder·told opened .draft .used) (blockBytes (stamped (Builder·told opened .draft .rule)) (entryOf 0 0 block))

@@ -6,7 +6,7 @@ use lib.ListN.{length}
 use Rattle.units.specs.Units.{Bytes, part}
 use Rattle.frame.specs.declared.Fields.{Fields}
 use Rattle.packet_bytes.specs.Bytes.{packetBytes}
-use Rattle.packet.specs.Write.{writePacket, writeTold}
+use Rattle.packet.specs.Write.{writePacket, outAfter, writeTold}
 use Rattle.packet.specs.declared.Packet.{Packet}
 
 -- what a writer is given but for the output
@@ -29,10 +29,15 @@ pub record Typed (c : Contents) : Type 0 where
 abbrev pub packetOf : Contents → List ℕ
 packetOf c = packetBytes (c .fields) (c .body)
 
--- the writer accepts: into an output of the packet's length it writes
+-- the writer accepts: there is an output into which it writes
 pub record Accepts (c : Contents) : Type 0 where
   pub typed : Typed c
-  pub written : writeTold (writePacket (c .fields) (c .body) (length (packetOf c))) .refusal .number ≡ 0
+  pub room : ℕ
+  pub writes : writeTold (writePacket (c .fields) (c .body) room) .refusal .number ≡ 0
+
+-- the output after the writer was given c
+abbrev pub outputOf : Contents → List ℕ → List ℕ
+outputOf c out = outAfter (writePacket (c .fields) (c .body) (length out)) out (packetOf c)
 
 -- any list of contents the writer accepts
 pub data AllAccepted : List Contents → Type 0 where

@@ -30,7 +30,7 @@ pub record Alike (start : ℕ) (a : List ℕ) (end : ℕ) (b : List ℕ) (end′
   pub message : (number : ℕ) → messageTold (messagePacket a start end number) ≡ messageTold (messagePacket b start end′ number)
 
 -- a list after the lister: what stands past the count told is as it was, and so is its length
-pub record Kept (r : PacketList) (values : ℕ → ℕ) (old : List ℕ) : Type 0 where
+pub record ListKept (r : PacketList) (values : ℕ → ℕ) (old : List ℕ) : Type 0 where
   pub past : drop (listTold r .count) (listAfter r values old) ≡ drop (listTold r .count) old
   pub long : length (listAfter r values old) ≡ length old
 
@@ -67,8 +67,8 @@ pub record Demand1 : Type 0 where
   -- "Readers write nothing but the lists they are lent": a buffer that is read is lent for reading alone, which the language holds to;
   -- of a list, nothing past the count told is written
   pub lists-kept : (buf : List ℕ) (start end : ℕ) (starts₀ lengths₀ : List ℕ)
-      → Kept (listPacket buf start end (length starts₀) (length lengths₀)) (starts (window buf start end)) starts₀
-      × Kept (listPacket buf start end (length starts₀) (length lengths₀)) (lengths (window buf start end)) lengths₀
+      → ListKept (listPacket buf start end (length starts₀) (length lengths₀)) (starts (window buf start end)) starts₀
+      × ListKept (listPacket buf start end (length starts₀) (length lengths₀)) (lengths (window buf start end)) lengths₀
   -- "a refused call leaves all lent memory untouched": the lister's lists, the writer's output, the builder's buffer at each step
   pub lists-untouched : (r : PacketList) → listTold r .refusal .number ≢ 0 → (values : ℕ → ℕ) (old : List ℕ) → listAfter r values old ≡ old
   pub output-untouched : (r : PacketWrite) → writeTold r .refusal .number ≢ 0 → (old bytes : List ℕ) → outAfter r old bytes ≡ old

@@ -12,10 +12,10 @@ use Rattle.body.specs.Blocks.{Entry}
 use Rattle.frame.specs.Header.{kindIn}
 use Rattle.packet.specs.Read.{window, packetIn, readPacket, Together, noRefusal, told}
 use Rattle.packet.specs.Messages.{listPacket, messagePacket, listTold, messageTold}
-use Rattle.packet.specs.Write.{writePacket, outAfter, writeTold}
+use Rattle.packet.specs.Write.{writePacket, writeTold}
 use Rattle.packet.specs.declared.Part.{Part}
 use Rattle.packet.specs.declared.Packet.{Packet}
-use Rattle.promises.specs.Contents.{Contents, Typed, packetOf, contentsOf}
+use Rattle.promises.specs.Contents.{Contents, Typed, outputOf, contentsOf}
 use Rattle.promises.specs.Endings.{readTold, listedTold, givenTold, writtenTold}
 use Rattle.promises.specs.Keeps.{Keeps}
 use Rattle.promises.specs.Reports.{Reports}
@@ -23,10 +23,6 @@ use Rattle.promises.specs.Reports.{Reports}
 -- the bytes of a part
 abbrev pub bytesIn : List ℕ → Part → List ℕ
 bytesIn buf q = part buf (q .at) (q .length)
-
--- the output after the writer was given c
-abbrev pub outputOf : Contents → List ℕ → List ℕ
-outputOf c out = outAfter (writePacket (c .fields) (c .body) (length out)) out (packetOf c)
 
 pub record Demand2 : Type 0 where
   -- "A packet is accepted exactly when the rules in document 01, taken from Chapter 11, hold: header, lengths, secondary time, sums,

@@ -4,10 +4,11 @@ use mathlib.Core.List.{List, _++_}
 use mathlib.Core.Logic.{_⊎_, _≢_}
 use Prim.Native.Nat.{ℕ, _+_, _≤_, _<_}
 use lib.ListN.{length}
+use Rattle.units.specs.Units.{Bytes, splice}
 use Rattle.body.specs.Walk.{refused}
 use Rattle.frame.specs.Header.{sumLength, bodyAt}
 use Rattle.packet.specs.Read.{window, noRefusal}
-use Rattle.promises.specs.Contents.{Contents, packetOf, Accepts, AllAccepted, written}
+use Rattle.promises.specs.Contents.{Contents, Typed, packetOf, Accepts, AllAccepted, written}
 use Rattle.promises.specs.Altered.{flagsOf, UnitOf, Altered, Pieces, FirstAltered}
 use Rattle.promises.specs.ReadsAs.{ReadsAs}
 
@@ -30,8 +31,14 @@ pub record Demand3 : Type 0 where
   pub stops-at-altered : (before : List Contents) → AllAccepted before → (c : Contents) → Accepts c → (n : ℕ) (ys : List ℕ) → Altered c n ys
       → (rest buf : List ℕ) (start end : ℕ) → start ≤ end → end ≤ length buf → window buf start end ≡ written before ++ (ys ++ rest)
       → ReadsAs buf start end before (start + length (written before)) (refused n (start + length (written before)) 0)
+  -- There is one first altered packet.
+  pub first-once : (cs : List Contents) (bs : List ℕ) (f g : FirstAltered cs bs)
+      → (f .before ≡ g .before) × (f .first ≡ g .first) × (f .behind ≡ g .behind) × (f .number ≡ g .number)
   -- Nothing is left out. Where no packet is altered, the bytes are those of the list;
   pub none-altered : (cs : List Contents) (bs : List ℕ) → Pieces cs 0 bs → AllAccepted cs × (bs ≡ written cs)
+  -- any other bytes in the place of a unit's are an alteration;
+  pub every-change-named : (c : Contents) → Typed c → (n at width : ℕ) → UnitOf c n at width → (new : List ℕ) → length new ≡ width → Bytes new
+      → splice (packetOf c) at new ≢ packetOf c → Altered c n (splice (packetOf c) at new)
   -- and each byte of both headers, and of body, filler and sum where a data sum is carried, lies in one of the units.
   pub every-byte-named : (c : Contents) (i : ℕ) → i < length (packetOf c) → (i < bodyAt (flagsOf c)) ⊎ (0 < sumLength (flagsOf c))
       → (n : ℕ) × (at : ℕ) × (width : ℕ) × UnitOf c n at width × (at ≤ i) × (i < at + width)

@@ -5,7 +5,9 @@ pub mod Keeps
 pub mod Reports
 pub mod Altered
 pub mod ReadsAs
+pub mod Table
 pub mod Demand1
 pub mod Demand2
 pub mod Demand3
+pub mod Document01
 pub mod Cases

@@ -26,9 +26,13 @@ use Rattle.packet.proofs.Answers.{read-refused}
 use Rattle.packet.proofs.Told.{read-told, read-numbered}
 use Rattle.packet.proofs.Window.{read-window}
 use Rattle.recording.specs.Reading.{Reading, stopped, ahead, onward, readFrom, reading, readRecording}
-use Rattle.recording.specs.Handed.{lengthOf, accepted, HandsOut}
+use Rattle.recording.specs.Handed.{lengthOf, HandsOut}
 use Rattle.recording.specs.declared.Recording.{Recording}
 use Rattle.recording.proofs.Readings.{from, from-end, from-on, from-stops, reading-inside, reading-outside}
+
+-- what is told of a packet that is accepted
+abbrev accepted : Packet → Told
+accepted p = record { refusal = noRefusal; packet = p }
 
 -- ---- from a place of the window on
 

@@ -5,7 +5,7 @@ use mathlib.Core.Bool.{true}
 use mathlib.Core.Logic.{_⊎_, _≢_}
 use Prim.Native.Nat.{ℕ, _+_, _<_}
 use lib.ListN.{length, take, getD}
-use Rattle.packet.specs.Read.{inside, readPacket, noRefusal, noPacket, Told, told}
+use Rattle.packet.specs.Read.{inside, readPacket, noRefusal, noPacket, told}
 use Rattle.packet.specs.declared.Packet.{Packet}
 use Rattle.recording.specs.declared.Recording.{Recording}
 
@@ -14,16 +14,12 @@ unfoldable pub lengthOf : List Packet → ℕ
 lengthOf [] = 0
 lengthOf (p ∷ ps) = p .length + lengthOf ps
 
--- what is told of a packet that is accepted
-abbrev pub accepted : Packet → Told
-accepted p = record { refusal = noRefusal; packet = p }
-
 -- r is the answer that hands out ps, read from start
 pub record HandsOut (buf : List ℕ) (start end : ℕ) (r : Recording) (ps : List Packet) : Type 0 where
   -- the number is exactly how many
   pub number : r .accepted ≡ length ps
   -- the one-packet reader, at each of those places with the same end, gives that packet
-  pub each : (i : ℕ) → i < length ps → told (readPacket buf (start + lengthOf (take i ps)) end) ≡ accepted (getD ps i noPacket)
+  pub each : (i : ℕ) → i < length ps → told (readPacket buf (start + lengthOf (take i ps)) end) ≡ record { refusal = noRefusal; packet = getD ps i noPacket }
   -- the lengths of the accepted packets add up to the distance covered
   pub covers : r .reached ≡ start + lengthOf ps
   -- and there is the end of a window in its buffer, and no refusal, or the reader refuses, with that refusal

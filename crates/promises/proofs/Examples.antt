@@ -1,0 +1,109 @@
+-- The demands are not empty: L is among the contents that the writer accepts; a recording of three different packets is read to its
+-- exact end, and with two of them altered up to the first; a body is built. All computed by the checker. Assumes nothing.
+use mathlib.Core.Path.{_≡_, refl, ap}
+use mathlib.Core.List.{List, [], _∷_}
+use mathlib.Core.Logic.{_≢_}
+use Prim.Native.Nat.{ℕ, _^_, _<_}
+use native.Mathlib.Omega.{arith}
+use lib.ListN.{getD, replicate}
+use lib.Dec.{lit<, lit≤}
+use Rattle.units.specs.Units.{Bytes, splice, num, bytesOf, sumUnits, summed, zeros}
+use Rattle.builder.specs.Build.{openStep, grown, added as Build·added, addStep, entryOf, closeStep, bufAfter, told as Builder·told}
+use Rattle.builder.specs.Run.{Built, fresh, opened, added, closedBody}
+use Rattle.body.specs.Walk.{refused}
+use Rattle.body.specs.Times.{timeOk, ruleOf}
+use Rattle.body.specs.Walk.{messageShape, uartShape, openBody, stampLength, headAt, judge, blockAt, spot, stopAt, ending, walkFrom, walk}
+use Rattle.body.specs.Answers.{checkBody}
+use Rattle.body.specs.Blocks.{blockBytes}
+use Rattle.frame.specs.Header.{fieldsIn}
+use Rattle.frame.specs.Rules.{limit, messageRule}
+use Rattle.frame.specs.Table.{first, headLines, valueLines, wholeLines, secondaryLines, trailerLines, frameLines}
+use Rattle.packet_bytes.specs.Bytes.{headWords, headBytes, secondaryWords, secondaryBytes, bodyAndFillerBytes, dataBytes, packetBytes}
+use Rattle.packet.specs.Read.{noRefusal, outerLines, outerRefusal, packetIn, bodyChecked, bodyAnswer, readPacket}
+use Rattle.packet.specs.Write.{writerLines, writerRefusal, fitted, writePacket, writeTold}
+use Rattle.recording.specs.Reading.{readFrom, reading, readRecording}
+use Rattle.promises.specs.Contents.{packetOf, Accepts, AllAccepted, nil, cons, written}
+use Rattle.promises.specs.Altered.{secondary, trailer, Pieces, none, intact, altered}
+use Rattle.promises.specs.Cases.{L, lContents, ieee1588, second, carriedByte, three, threeIn, twoAltered, block, opened as Cases·opened, bufferOpened, added as Cases·added, bufferAdded}
+use Rattle.promises.proofs.Alterations.{change-named}
+
+-- ---- L
+
+pub L-written : packetOf (lContents 2 0) ≡ L
+unfolding num bytesOf sumUnits headWords headBytes secondaryWords secondaryBytes bodyAndFillerBytes dataBytes packetBytes L lContents
+L-written = refl
+
+-- its contents with other flags and time, where the writer takes them
+l-accepted : (flags time : ℕ) → flags < 2 ^ 8 → time < 2 ^ 64
+    → writeTold (writePacket (lContents flags time .fields) (lContents flags time .body) 48) .refusal .number ≡ 0
+    → Accepts (lContents flags time)
+unfolding lContents Bytes
+l-accepted flags time f t w =
+    record {
+      typed = record { channel = lit< tt; version = lit< tt; sequence = lit< tt; flags = f; kind = lit< tt; rtc = lit< tt; time = t; body = search arith };
+      room = 48;
+      writes = w;
+    }
+
+pub L-accepted : Accepts (lContents 2 0)
+unfolding num bytesOf sumUnits summed zeros timeOk ruleOf messageShape uartShape openBody stampLength headAt judge blockAt spot stopAt ending walkFrom walk checkBody fieldsIn limit messageRule first headLines valueLines wholeLines secondaryLines trailerLines frameLines headWords headBytes secondaryWords secondaryBytes bodyAndFillerBytes dataBytes packetBytes outerLines outerRefusal packetIn bodyChecked bodyAnswer readPacket writerLines writerRefusal fitted writePacket lContents
+L-accepted = l-accepted 2 0 (lit< tt) (lit< tt) refl
+
+-- ---- three packets
+
+pub three-read : readRecording threeIn 5 125 ≡ record { accepted = 3; reached = 125; refusal = noRefusal }
+unfolding num bytesOf sumUnits summed zeros timeOk ruleOf messageShape uartShape openBody stampLength headAt judge blockAt spot stopAt ending walkFrom walk checkBody fieldsIn limit messageRule first headLines valueLines wholeLines secondaryLines trailerLines frameLines headWords headBytes secondaryWords secondaryBytes bodyAndFillerBytes dataBytes packetBytes outerLines outerRefusal packetIn bodyChecked bodyAnswer readPacket writerLines writerRefusal fitted writePacket L lContents written carriedByte three threeIn readFrom reading readRecording
+three-read = refl
+
+second-accepted : Accepts (lContents ieee1588 (second 2))
+unfolding num bytesOf sumUnits summed zeros timeOk ruleOf messageShape uartShape openBody stampLength headAt judge blockAt spot stopAt ending walkFrom walk checkBody fieldsIn limit messageRule first headLines valueLines wholeLines secondaryLines trailerLines frameLines headWords headBytes secondaryWords secondaryBytes bodyAndFillerBytes dataBytes packetBytes writerLines writerRefusal fitted writePacket lContents carriedByte Bytes
+second-accepted = l-accepted ieee1588 (second 2) (lit< tt) (lit< tt) refl
+
+carried-accepted : Accepts carriedByte
+unfolding num bytesOf sumUnits summed zeros timeOk ruleOf messageShape uartShape openBody stampLength headAt judge blockAt spot stopAt ending walkFrom walk checkBody fieldsIn limit messageRule first headLines valueLines wholeLines secondaryLines trailerLines frameLines headWords headBytes secondaryWords secondaryBytes bodyAndFillerBytes dataBytes packetBytes writerLines writerRefusal fitted writePacket lContents carriedByte Bytes
+carried-accepted =
+    record {
+      typed =
+          record { channel = lit< tt; version = lit< tt; sequence = lit< tt; flags = lit< tt; kind = lit< tt; rtc = lit< tt; time = lit< tt; body = search arith };
+      room = 48;
+      writes = refl;
+    }
+
+pub three-accepted : AllAccepted three
+unfolding three
+three-accepted =
+    cons {c = lContents 2 0} L-accepted (cons {c = lContents ieee1588 (second 2)} second-accepted (cons {c = carriedByte} carried-accepted nil))
+
+second-differs : splice (packetOf (lContents ieee1588 (second 2))) 24 (0x03 ∷ 0x00 ∷ []) ≢ packetOf (lContents ieee1588 (second 2))
+unfolding bytesOf headWords headBytes secondaryWords secondaryBytes bodyAndFillerBytes dataBytes packetBytes lContents
+second-differs e = let z : _≡_ {A = ℕ} 0x03 0x02 = ap (λ (l : List ℕ). getD l 24 0) e in omega arith
+
+third-differs : splice (packetOf carriedByte) 24 (0xAA ∷ 0x01 ∷ 0x00 ∷ 0x00 ∷ []) ≢ packetOf carriedByte
+unfolding bytesOf headWords headBytes secondaryWords secondaryBytes bodyAndFillerBytes dataBytes packetBytes carriedByte
+third-differs e = let z : _≡_ {A = ℕ} 0x01 0x00 = ap (λ (l : List ℕ). getD l 25 0) e in omega arith
+
+pub two-altered : Pieces three 2 twoAltered
+unfolding bytesOf headWords headBytes secondaryWords secondaryBytes bodyAndFillerBytes dataBytes packetBytes lContents carriedByte three twoAltered Bytes
+two-altered =
+    intact L-accepted
+    (altered second-accepted
+    (change-named (lContents ieee1588 (second 2)) (second-accepted .typed) 11 24 2 (secondary 0 (lit≤ tt)) (0x03 ∷ 0x00 ∷ []) refl (search arith) second-differs)
+    (altered carried-accepted
+    (change-named carriedByte (carried-accepted .typed) 13 24 4 (trailer 0 (lit< tt) (lit≤ tt)) (0xAA ∷ 0x01 ∷ 0x00 ∷ 0x00 ∷ []) refl (search arith) third-differs)
+    none))
+
+-- and it is read up to the first of them
+pub two-altered-read : readRecording twoAltered 0 120 ≡ record { accepted = 1; reached = 40; refusal = refused 11 40 0 }
+unfolding num bytesOf sumUnits summed zeros timeOk ruleOf messageShape uartShape openBody stampLength headAt judge blockAt spot stopAt ending walkFrom walk checkBody fieldsIn limit messageRule first headLines valueLines wholeLines secondaryLines trailerLines frameLines headWords headBytes secondaryWords secondaryBytes bodyAndFillerBytes dataBytes packetBytes outerLines outerRefusal packetIn bodyChecked bodyAnswer readPacket lContents carriedByte twoAltered readFrom reading readRecording
+two-altered-read = refl
+
+-- ---- L's body is built
+
+pub body-built : Built bufferAdded (Builder·told Cases·added .draft) (entryOf 0 0 block ∷ [])
+unfolding Cases·opened bufferOpened Cases·added bufferAdded openStep addStep grown Build·added bufAfter bytesOf stampLength
+body-built = added 0 0 block (lit< tt) (lit< tt) (opened 0x50 0 (fresh (replicate 12 0xEE)))
+
+pub body-closed : (Builder·told (closeStep (Builder·told Cases·added .draft) 12) .number ≡ 0)
+    × (closedBody bufferAdded (Builder·told Cases·added .draft) ≡ lContents 2 0 .body)
+unfolding Cases·opened bufferOpened Cases·added bufferAdded openStep addStep closeStep grown Build·added bufAfter bytesOf stampLength blockBytes lContents
+body-closed = (refl, refl)

@@ -1,0 +1,70 @@
+-- What document 01 promises of the calls beside the three demands, sentence by sentence; proved in proofs/Document01.antt (document-01).
+use mathlib.Core.Path.{_≡_}
+use mathlib.Core.List.{List, _∷_, _++_}
+use mathlib.Core.Bool.{true}
+use mathlib.Core.Logic.{_⊎_, _≢_}
+use Prim.Native.Nat.{ℕ, _≤_, _<_}
+use lib.ListN.{length, drop}
+use Rattle.body.specs.Times.{ruleOf}
+use Rattle.body.specs.Walk.{refused}
+use Rattle.body.specs.Answers.{checkBody, noMessage}
+use Rattle.body.specs.Blocks.{Entry, entriesIn}
+use Rattle.body.specs.declared.Refusal.{Refusal}
+use Rattle.body.specs.declared.TimeRule.{TimeRule}
+use Rattle.body.specs.declared.Checked.the-variants.{Counted, Faulty}
+use Rattle.builder.specs.Build.{stamped, closeStep, told as Builder·told}
+use Rattle.builder.specs.Run.{Built, closedBody}
+use Rattle.builder.specs.declared.Draft.{Draft}
+use Rattle.frame.specs.Rules.{messageRule}
+use Rattle.frame.specs.Table.{first}
+use Rattle.frame.specs.declared.Fields.{Fields}
+use Rattle.packet.specs.Read.{window, readPacket, noRefusal, noPacket, told}
+use Rattle.packet.specs.Messages.{listPacket, messagePacket, listTold, messageTold}
+use Rattle.packet.specs.Write.{writePacket, writeTold}
+use Rattle.packet.specs.declared.Packet.{Packet}
+use Rattle.recording.specs.Reading.{readRecording}
+use Rattle.recording.specs.Handed.{HandsOut}
+use Rattle.promises.specs.Contents.{Contents, packetOf, Accepts, outputOf}
+use Rattle.promises.specs.Endings.{Ends, readTold, listedTold, givenTold, writtenTold}
+use Rattle.promises.specs.Table.{table, writerTable}
+
+-- the writer's answer where 17, 5 to 9 and 12 have nothing against it: 15 by the body, then 16 with the packet's length as room
+pub record WritesOrNot (c : Contents) (room : ℕ) : Type 0 where
+  pub faulty : (r : Refusal) → checkBody (c .fields .kind) (messageRule (c .fields .flags)) (c .body) ≡ Faulty r
+      → writeTold (writePacket (c .fields) (c .body) room) ≡ writtenTold (refused 15 0 0) 0
+  pub short : (n : ℕ) → checkBody (c .fields .kind) (messageRule (c .fields .flags)) (c .body) ≡ Counted n → room < length (packetOf c)
+      → writeTold (writePacket (c .fields) (c .body) room) ≡ writtenTold (refused 16 0 (length (packetOf c))) 0
+  pub fits : (n : ℕ) → checkBody (c .fields .kind) (messageRule (c .fields .flags)) (c .body) ≡ Counted n → length (packetOf c) ≤ room
+      → writeTold (writePacket (c .fields) (c .body) room) ≡ writtenTold noRefusal (length (packetOf c))
+
+pub record Document01 : Type 0 where
+  -- "Tested from the top, save where a call's own order stands below; the first that applies is given, and none is given otherwise."
+  pub read-table : (buf : List ℕ) (start end : ℕ) → first (table buf start end (window buf start end)) ≢ 0
+      → told (readPacket buf start end) ≡ readTold (refused (first (table buf start end (window buf start end))) start 0) noPacket
+  -- where none of 1 to 14 applies, 15 or none
+  pub read-behind : (buf : List ℕ) (start end : ℕ) → first (table buf start end (window buf start end)) ≡ 0
+      → (told (readPacket buf start end) .refusal .number ≡ 0) ⊎ (told (readPacket buf start end) .refusal .number ≡ 15)
+  -- Lister: "After the reader's tests", and the second call too: a refusal of the reader is theirs, number, place and room
+  pub list-as-read : (buf : List ℕ) (start end len₁ len₂ : ℕ) → told (readPacket buf start end) .refusal .number ≢ 0
+      → listTold (listPacket buf start end len₁ len₂) ≡ listedTold (told (readPacket buf start end) .refusal) 0
+  pub message-as-read : (buf : List ℕ) (start end number : ℕ) → told (readPacket buf start end) .refusal .number ≢ 0
+      → messageTold (messagePacket buf start end number) ≡ givenTold (told (readPacket buf start end) .refusal) noMessage
+  -- Recording: "Handed out means that the one-packet reader, at each of those places with the same end, gives that packet; the number is
+  -- exactly how many. The lengths of the accepted packets add up to the distance covered." One list of packets is so, and no other.
+  pub recording-handed : (buf : List ℕ) (start end : ℕ)
+      → (ps : List Packet) × HandsOut buf start end (readRecording buf start end) ps × ((qs : List Packet) → HandsOut buf start end (readRecording buf start end) qs → qs ≡ ps)
+  -- Builder: "From a fresh state handed on step by step and closed last, the buffer untouched between, the body, at any size, reads back
+  -- by the layout above and its time rule as the blocks added."
+  pub built-reads-back : (buf : List ℕ) (d : Draft) (es : List Entry) (rule : TimeRule) → Built buf d es → Builder·told (closeStep d (length buf)) .number ≡ 0
+      → (stamped (d .rule) ≡ true → rule ≡ ruleOf (d .rule))
+      → (checkBody (d .kind) rule (closedBody buf d) ≡ Counted (length es)) × (entriesIn (d .kind) rule (closedBody buf d) (length es) ≡ es)
+  -- once a block is added, closing is not refused
+  pub built-closes : (buf : List ℕ) (d : Draft) (e : Entry) (es : List Entry) → Built buf d (e ∷ es) → Builder·told (closeStep d (length buf)) .number ≡ 0
+  -- Writer: a length, or one refusal of the table's; "First 17 (..), then 5 to 9, 12 and 15 by the reader's rules, then 16."
+  pub write-ends : (f : Fields) (body : List ℕ) (room : ℕ) → Ends 17 writtenTold 0 (writeTold (writePacket f body room))
+  pub write-table : (f : Fields) (body : List ℕ) (room : ℕ) → first (writerTable f (length body)) ≢ 0
+      → writeTold (writePacket f body room) ≡ writtenTold (refused (first (writerTable f (length body))) 0 0) 0
+  pub write-behind : (c : Contents) (room : ℕ) → first (writerTable (c .fields) (length (c .body))) ≡ 0 → WritesOrNot c room
+  -- "Output behind the packet is untouched", and the packet's bytes are before it
+  pub written-there : (c : Contents) → Accepts c → (out : List ℕ) → length (packetOf c) ≤ length out
+      → outputOf c out ≡ packetOf c ++ drop (length (packetOf c)) out
