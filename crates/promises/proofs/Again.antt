@@ -46,12 +46,12 @@ four-bytes bs at h =
     rw (part-cons bs at 3 (omega arith), part-cons bs (suc at) 2 (omega arith))
     (ap (λ (l : List ℕ). getD bs at 0 ∷ getD bs (suc at) 0 ∷ l) (two-bytes bs (suc (suc at)) (omega arith)))
 
-field-below : (bs : List ℕ) (at n : ℕ) → Bytes bs → field bs at n < 256 ^ n
+pub field-below : (bs : List ℕ) (at n : ℕ) → Bytes bs → field bs at n < 256 ^ n
 field-below bs at n b =
     let l : length (part bs at n) ≤ n = simp length-take (omega arith) in
     lt-of-lt-of-le (num-lt (part bs at n) (bytes-part bs at n b)) (pow-le-pow-right (zero-lt-suc 255) l)
 
-byte-below : (bs : List ℕ) (at : ℕ) → Bytes bs → byte bs at < 2 ^ 8
+pub byte-below : (bs : List ℕ) (at : ℕ) → Bytes bs → byte bs at < 2 ^ 8
 byte-below bs at b = omega (arith, field-below bs at 1 b, field-one bs at)
 
 -- units and the right sum behind them, written again

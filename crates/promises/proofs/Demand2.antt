@@ -23,7 +23,8 @@ use Rattle.promises.proofs.Ends.{accepted-is}
 use Rattle.promises.proofs.Writer.{lengthIn, Right, written-says, right-written, right-accepts, accepts-right, length-of}
 use Rattle.promises.proofs.Written.{read-written}
 use Rattle.promises.proofs.Again.{read-again}
-use Rattle.promises.proofs.Reported.{keeps-accepted, accepted-keeps, messages-there, carried-none}
+use Rattle.promises.proofs.Keeping.{keeps-accepted, accepted-keeps}
+use Rattle.promises.proofs.Reported.{messages-there, carried-none}
 
 -- ---- what is reported
 
@@ -97,7 +98,7 @@ demand-2 =
       accepted-exactly =
           λ buf raw start end. (
             λ zero. accepted-keeps buf start end _ raw (read-told buf start end zero),
-            λ keeps. ap (λ (x : PacketRead). told x .refusal .number) (keeps-accepted buf start end keeps .1),
+            λ keeps. ap (λ (x : PacketRead). told x .refusal .number) (keeps-accepted buf start end raw keeps .1),
           );
       packet-there = λ buf start end p is. accepted-at buf start end p (accepted-is buf start end p is) .packet;
       parts-there =

@@ -2,6 +2,7 @@ pub mod Writer
 pub mod Regions
 pub mod Written
 pub mod Again
+pub mod Keeping
 pub mod Reported
 pub mod Spoilt
 pub mod Alterations

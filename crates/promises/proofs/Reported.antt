@@ -1,5 +1,5 @@
--- A packet is accepted exactly when every rule holds, and what the calls report of its messages is what is there. Assumes nothing.
-use mathlib.Core.Path.{_≡_, refl, sym, ap, _∙_}
+-- What the calls report of an accepted packet's messages is what is there. Assumes nothing.
+use mathlib.Core.Path.{_≡_, sym, ap, _∙_}
 use mathlib.Core.List.{List, [], _∷_, _++_}
 use mathlib.Core.Bool.{Bool, true, false}
 use Prim.Native.Nat.{ℕ, zero, suc, _+_, _-_, _≤_, _<_, min}
@@ -7,112 +7,32 @@ use native.Mathlib.Omega.{arith}
 use native.Mathlib.Decide.{decLe}
 use lib.ListN.{length, take, drop, getD, List·getD-append}
 use lib.Seq.{getD-at}
-use lib.Dec.{leb}
-use borrow.Author.Tests.{le-leb, lt-leb, le-ltb, lt-ltb, leb-true}
+use borrow.Author.Tests.{le-leb, lt-leb, le-ltb, lt-ltb}
 use Rattle.units.specs.Units.{Bytes, part}
-use Rattle.units.proofs.Choices.{and-true}
-use Rattle.units.proofs.Parts.{length-part, bytes-part, part-part}
-use Rattle.body.specs.Walk.{refused, opens, openBody, stampLength}
-use Rattle.body.specs.Answers.{noMessage, checkBody, messageIn, tab, filled}
+use Rattle.units.proofs.Parts.{length-part, part-part}
+use Rattle.body.specs.Walk.{refused, opens, stampLength}
+use Rattle.body.specs.Answers.{noMessage, messageIn, tab, filled}
 use Rattle.body.specs.Blocks.{Entry, noEntry, blocksBytes, messageOn, entryAt, entriesIn, BodyOf}
 use Rattle.body.specs.declared.TimeRule.{TimeRule}
 use Rattle.body.specs.declared.Message.{Message}
 use Rattle.body.specs.declared.Checked.the-variants.{Counted}
 use Rattle.body.proofs.Reading.{length-tab}
 use Rattle.body.proofs.Bounds.{message-fits}
-use Rattle.body.proofs.Exactly.{body-of-blocks, body-messages, body-is-blocks}
+use Rattle.body.proofs.Exactly.{body-of-blocks, body-messages}
 use Rattle.frame.specs.Header.{dataLength, flagsIn, kindIn, bodyAt, bodyIn}
 use Rattle.frame.specs.Rules.{messageRule}
-use Rattle.frame.proofs.Frames.{framed-says, framed-passes}
-use Rattle.packet.specs.Read.{window, packetIn, bodyChecked, readPacket, noRefusal}
+use Rattle.packet.specs.Read.{window, bodyChecked, readPacket, noRefusal}
 use Rattle.packet.specs.Messages.{messageCount, kthMessage, listAnswer, listPacket, listAfter, starts, lengths, messageAnswer, messagePacket, listTold, messageTold}
 use Rattle.packet.specs.declared.Packet.{Packet}
 use Rattle.packet.specs.declared.PacketRead.the-variants.{Accepted}
 use Rattle.packet.specs.declared.PacketList.{PacketList}
 use Rattle.packet.specs.declared.PacketList.the-variants.{Listed, Unlisted}
 use Rattle.packet.specs.declared.PacketMessage.the-variants.{Given, Withheld}
-use Rattle.packet.proofs.Answers.{Open, outer-open, outer-inside, ahead}
-use Rattle.packet.proofs.Own.{accepted-at, at-accepted}
+use Rattle.packet.proofs.Answers.{ahead}
+use Rattle.packet.proofs.Own.{accepted-at}
 use Rattle.promises.specs.Endings.{listedTold, givenTold}
-use Rattle.promises.specs.Keeps.{Keeps}
 use Rattle.promises.specs.Reports.{messageFor, Reports}
-
--- ---- accepted exactly when every rule holds
-
--- a body of a type that isn't opened passes, with no message
-carried-counted : (kind : ℕ) (rule : TimeRule) (bs : List ℕ) → opens kind ≡ false → checkBody kind rule bs ≡ Counted 0
-unfolding checkBody openBody
-carried-counted kind rule bs o = rw o
-
--- a body that keeps rule 15 is counted
-kept-counted : (kind : ℕ) (rule : TimeRule) (bs : List ℕ) → (opens kind ≡ true → (es : List Entry) × BodyOf kind rule bs es)
-    → (n : ℕ) × (checkBody kind rule bs ≡ Counted n)
-kept-counted kind rule bs messages = go (opens kind) refl
-  where
-    go : (o : Bool) → opens kind ≡ o → (n : ℕ) × (checkBody kind rule bs ≡ Counted n)
-    go true o = let m = messages o in (length (m .0), body-of-blocks kind rule bs (m .0) (m .1) .0)
-    go false o = (0, carried-counted kind rule bs o)
-
-kept-open : (buf : List ℕ) (s e : ℕ) → Keeps buf s e (window buf s e) → Open buf s e
-kept-open buf s e k =
-    let i = and-true (leb s e) (leb e (length buf)) (k .inside) in
-    let framed =
-    framed-passes (window buf s e)
-    (record {
-      enough = k .enough;
-      synced = k .synced;
-      headerSummed = k .headerSummed;
-      values =
-          record {
-            versionOk = k .versionOk;
-            typeOk = k .typeOk;
-            flagsOk = k .flagsOk;
-            channelOk = k .channelOk;
-            lengthsOk = k .lengthsOk;
-          };
-      whole = k .whole;
-      secondarySummed = k .secondarySummed;
-      secondaryOk = k .secondaryOk;
-      dataSummed = k .dataSummed;
-      fillerOk = k .fillerOk;
-    }) in
-    outer-open buf s e (sym (outer-inside buf s e 0 (leb-true s e (i .0)) (leb-true e (length buf) (i .1)) (sym framed)))
-
--- a packet that keeps every rule is accepted
-pub keeps-accepted : (buf : List ℕ) (s e : ℕ) → Keeps buf s e (window buf s e) → (p : Packet) × (readPacket buf s e ≡ Accepted p)
-unfolding bodyChecked
-keeps-accepted buf s e k =
-    let w = window buf s e in
-    let c = kept-counted (kindIn w) (messageRule (flagsIn w)) (bodyIn w) (k .messages) in
-    (packetIn w s, at-accepted buf s e (packetIn w s) (record { opens = kept-open buf s e k; count = c .0; body = c .1; packet = refl }))
-
--- and no other
-pub accepted-keeps : (buf : List ℕ) (s e : ℕ) (p : Packet) → Bytes buf → readPacket buf s e ≡ Accepted p → Keeps buf s e (window buf s e)
-unfolding bodyChecked
-accepted-keeps buf s e p raw h =
-    let w = window buf s e in
-    let a = accepted-at buf s e p h in
-    let f = framed-says w (a .opens .framed) in
-    let rule = messageRule (flagsIn w) in
-    let bytes : Bytes (bodyIn w) = bytes-part w (bodyAt (flagsIn w)) (dataLength w) (bytes-part buf s (e - s) raw) in
-    record {
-      inside = rw (le-leb s e (a .opens .ordered), le-leb e (length buf) (a .opens .within));
-      enough = f .enough;
-      synced = f .synced;
-      headerSummed = f .headerSummed;
-      versionOk = f .values .versionOk;
-      typeOk = f .values .typeOk;
-      flagsOk = f .values .flagsOk;
-      channelOk = f .values .channelOk;
-      lengthsOk = f .values .lengthsOk;
-      whole = f .whole;
-      secondarySummed = f .secondarySummed;
-      secondaryOk = f .secondaryOk;
-      dataSummed = f .dataSummed;
-      fillerOk = f .fillerOk;
-      messages =
-          λ o. (entriesIn (kindIn w) rule (bodyIn w) (a .count), body-is-blocks (kindIn w) rule (bodyIn w) (a .count) bytes o (a .body) .1);
-    }
+use Rattle.promises.proofs.Keeping.{carried-counted, accepted-keeps}
 
 -- ---- what the calls say of an accepted packet with n messages
 
