@@ -2,11 +2,13 @@
 use mathlib.Core.Path.{_≡_, refl, sym, ap, _∙_}
 use mathlib.Core.List.{List}
 use mathlib.Core.Bool.{Bool, true, false, not}
+use mathlib.Core.Logic.{_≢_}
 use Prim.Native.Nat.{ℕ, zero, suc, _+_, _-_, _%_, _≤_, _<_}
 use native.Mathlib.Omega.{arith}
 use native.Mathlib.Nat.{zero-add, add-zero}
 use lib.ListN.{length}
 use lib.Dec.{ltb, leb, eqb}
+use borrow.Author.Tests.{eqb-false}
 use Rattle.units.specs.Units.{part, zeros}
 use Rattle.units.specs.Choice.{pick}
 use Rattle.body.specs.Times.{timeOk}
@@ -20,10 +22,9 @@ use Rattle.body.specs.declared.Opened.{Opened}
 use Rattle.body.specs.declared.Opened.the-variants.{Carried, Shaped, Wrong}
 use Rattle.body.specs.declared.Block.{Block}
 use Rattle.body.specs.declared.Block.the-variants.{Found, Broken}
-use Rattle.body.specs.declared.Checked.{Checked}
 use Rattle.body.specs.declared.Checked.the-variants.{Counted, Faulty}
 use Rattle.body.proofs.Walking.{Walking, walking-first, walking-next, walk-stop, walk-broken, walk-found, open-long}
-use Rattle.body.proofs.Reading.{Reading, reading-first, reading-ahead, Ahead, message-shaped}
+use Rattle.body.proofs.Reading.{Reading, reading-first, reading-ahead, message-shaped}
 
 -- ---- faults
 
@@ -36,7 +37,7 @@ at-start false at rest behind r e = behind r e
 found-broken : (m : Message) (next : ℕ) (at : ℕ) (r : Refusal) → Found m next ≡ Broken r → r ≡ fault at
 found-broken m next at r e = let z : _≡_ {A = ℕ} 0 1 = cc in absurd (omega arith)
 
-broken-at : (sh : Shape) (bs : List ℕ) (at : ℕ) (r : Refusal) → blockAt sh bs at ≡ Broken r → r ≡ fault at
+pub broken-at : (sh : Shape) (bs : List ℕ) (at : ℕ) (r : Refusal) → blockAt sh bs at ≡ Broken r → r ≡ fault at
 unfolding blockAt judge
 broken-at sh bs at =
     let m = headAt (sh .stamped) bs at in
@@ -48,13 +49,14 @@ broken-at sh bs at =
     (at-start (not (zeros (part bs (m .start + m .length) (m .length % 2)))) at _
     (found-broken m (blockEnd m) at))))))
 
-ending-place : (len k at : ℕ) (r : Refusal) → at ≤ len → ending len k at ≡ Faulty r → r .place ≤ len
+-- bytes left over are placed at the first of them
+pub ending-faulty : (len k at : ℕ) (r : Refusal) → ending len k at ≡ Faulty r → (r ≡ fault at) × (at ≢ len)
 unfolding ending
-ending-place len k at r h = go (eqb at len)
+ending-faulty len k at r e = go (eqb at len) refl e
   where
-    go : (b : Bool) → pick b (Counted k) (Faulty (fault at)) ≡ Faulty r → r .place ≤ len
-    go true e = let z : _≡_ {A = ℕ} 0 1 = cc in absurd (omega arith)
-    go false e = let p : r .place ≡ at = cc in omega arith
+    go : (b : Bool) → eqb at len ≡ b → pick b (Counted k) (Faulty (fault at)) ≡ Faulty r → (r ≡ fault at) × (at ≢ len)
+    go true t e = let z : _≡_ {A = ℕ} 0 1 = cc in absurd (omega arith)
+    go false t e = (cc, eqb-false at len t)
 
 walk-place : (sh : Shape) (bs : List ℕ) (f k at : ℕ) (r : Refusal) → Walking sh bs k at → length bs < f + k → walkFrom sh bs f k ≡ Faulty r → r .place ≤ length bs
 walk-place sh bs zero k at r w hf e = absurd (omega arith)
@@ -63,7 +65,9 @@ walk-place sh bs (suc f) k at r w hf e =
   where
     go : (b : Bool) → stopAt sh (length bs) k at ≡ b → (x : Block) → blockAt sh bs at ≡ x
         → ((next : ℕ) → Walking sh bs (k + 1) next → walkFrom sh bs f (k + 1) ≡ Faulty r → r .place ≤ length bs) → r .place ≤ length bs
-    go true s x b rest = ending-place (length bs) k at r (w .2) (sym (walk-stop sh bs (suc f) k at (w .0) (omega arith) s) ∙ e)
+    go true s x b rest =
+        let p = ending-faulty (length bs) k at r (sym (walk-stop sh bs (suc f) k at (w .0) (omega arith) s) ∙ e) in
+        omega (arith, w .2, ap (λ (x : Refusal). x .place) (p .0))
     go false s (Broken q) b rest =
         let same : q ≡ r = cc (sym (walk-broken sh bs (suc f) k at (w .0) (omega arith) q s b) ∙ e) in
         let p : r .place ≡ at = ap (λ (x : Refusal). x .place) (sym same ∙ broken-at sh bs at q b) in

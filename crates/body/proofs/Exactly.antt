@@ -26,7 +26,7 @@ entries-shaped : (kind : ℕ) (rule : TimeRule) (bs : List ℕ) (sh : Shape) (n 
 unfolding entriesIn
 entries-shaped kind rule bs sh n o = tab-ext n _ (entryOn sh bs) (λ k h. ap (entryAt bs) (message-shaped kind rule bs sh k o))
 
-check-shaped : (kind : ℕ) (rule : TimeRule) (bs : List ℕ) (sh : Shape) → openBody kind rule bs ≡ Shaped sh → checkBody kind rule bs ≡ walk sh bs
+pub check-shaped : (kind : ℕ) (rule : TimeRule) (bs : List ℕ) (sh : Shape) → openBody kind rule bs ≡ Shaped sh → checkBody kind rule bs ≡ walk sh bs
 unfolding checkBody
 check-shaped kind rule bs sh o = simp o
 
@@ -43,7 +43,7 @@ blocks-walked kind rule bs es b =
     let four : length (take 4 bs) ≡ 4 = length-take-le 4 bs long in
     let fit : AllFit (sh .stamped) (sh .rule) es = rw (known kind rule bs sh (b .opened) .rule-is) (b .fit) in
     let w =
-    walk-blocks sh bs (length es) (stop-last sh bs (length es) (b .counted) (b .some)) (on-before sh bs (length es) (b .counted))
+    walk-blocks sh bs (length es) (stop-last sh bs (length es) (b .counted) (b .some)) (on-before sh bs (length es) (λ c. omega (arith, b .counted c)))
     es (take 4 bs) 0 (omega arith) (b .is) fit (rw four (counting-first sh bs long)) in
     (w .0, w .1, λ i h. rw four at (w .2 i h))
 

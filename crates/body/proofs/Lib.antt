@@ -4,3 +4,4 @@ pub mod Blocks
 pub mod Whole
 pub mod Exactly
 pub mod Bounds
+pub mod Faults

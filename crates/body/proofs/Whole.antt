@@ -1,7 +1,7 @@
 -- The walk and the blocks: what is laid out in blocks is walked, and what is walked is laid out in blocks. Assumes nothing.
 use mathlib.Core.Path.{_≡_, refl, sym, ap, _∙_, subst}
 use mathlib.Core.List.{List, [], _∷_, _++_, append-assoc, append-nil}
-use mathlib.Core.Bool.{Bool, true, false, not, _&&_}
+use mathlib.Core.Bool.{Bool, true, false, not, _&&_, and-false}
 use Prim.Native.Nat.{ℕ, zero, suc, _+_, _%_, _/_, _^_, _≤_, _<_}
 use native.Mathlib.Omega.{arith}
 use native.Mathlib.Numerals.{add-one}
@@ -55,7 +55,7 @@ module _ (sh : Shape) (bs front rest : List ℕ) (e : Entry) (is : bs ≡ front 
       part-at bs (front ++ stampBytes ++ wordBytes) (e .bytes) (padBytes ++ rest) (length front + stampLength (sh .stamped) + 4) (length (e .bytes))
       (split ∙ simp append-assoc) (simp (length-append, length-bytesOf)) refl
 
-  stands-there : Fits (sh .stamped) (sh .rule) e
+  pub stands-there : Fits (sh .stamped) (sh .rule) e
       → Stands sh bs (length front) (messageOn (sh .stamped) (length front) e) (length (front ++ blockBytes (sh .stamped) e))
   unfolding headAt
   stands-there ok =
@@ -139,23 +139,19 @@ module _ (sh : Shape) (bs : List ℕ) (n : ℕ) where
       go true c = le-leb (sh .count) n (omega (arith, counted c))
       go false c = rw (lt-ltb 0 n pos, le-leb (length bs) (length bs) (omega arith))
 
-  pub on-before : (sh .counted ≡ true → n ≡ sh .count) → (k at : ℕ) → k < n → at < length bs → stopAt sh (length bs) k at ≡ false
+  pub on-before : (sh .counted ≡ true → n ≤ sh .count) → (k at : ℕ) → k < n → at < length bs → stopAt sh (length bs) k at ≡ false
   unfolding stopAt
   on-before counted k at h l = go (sh .counted) refl
     where
-      never : (t : Bool) → (t && false) ≡ false
-      never true = refl
-      never false = refl
-
       go : (b : Bool) → sh .counted ≡ b → pick b (leb (sh .count) k) (ltb 0 k && leb (length bs) at) ≡ false
       go true c = lt-leb (sh .count) k (omega (arith, counted c))
-      go false c = rw (lt-leb (length bs) at l) (never (ltb 0 k))
+      go false c = rw (lt-leb (length bs) at l) (and-false (ltb 0 k))
 
 -- ---- from a body that is accepted to blocks
 
 module _ (sh : Shape) (bs : List ℕ) (at : ℕ) (m : Message) (next : ℕ) (raw : Bytes bs) (found : blockAt sh bs at ≡ Found m next) where
   -- a block that is found is the bytes of what it reports
-  found-is : take next bs ≡ take at bs ++ blockBytes (sh .stamped) (entryAt bs m)
+  pub found-is : take next bs ≡ take at bs ++ blockBytes (sh .stamped) (entryAt bs m)
   unfolding headAt blockBytes
   found-is =
       let s = stands sh bs at m next found in
@@ -180,7 +176,7 @@ module _ (sh : Shape) (bs : List ℕ) (at : ℕ) (m : Message) (next : ℕ) (raw
       (take-add (at + st) 4 bs ∙ ap (λ (l : List ℕ). l ++ part bs (at + st) 4) (take-add at st bs))) in
       rw (e, whole, lB, pS, pI, ← pZ, b) (simp append-assoc)
 
-  found-fits : Fits (sh .stamped) (sh .rule) (entryAt bs m)
+  pub found-fits : Fits (sh .stamped) (sh .rule) (entryAt bs m)
   unfolding headAt
   found-fits =
       let s = stands sh bs at m next found in
@@ -207,7 +203,7 @@ pub come-first : (sh : Shape) (bs : List ℕ) → Come sh bs 0 4
 unfolding blocksBytes tab
 come-first sh bs = record { is = sym (append-nil (take 4 bs)); fit = tt; within = λ c. omega arith }
 
-come-next : (sh : Shape) (bs : List ℕ) (k at : ℕ) (m : Message) (next : ℕ) → Bytes bs → Walking sh bs k at → stopAt sh (length bs) k at ≡ false
+pub come-next : (sh : Shape) (bs : List ℕ) (k at : ℕ) (m : Message) (next : ℕ) → Bytes bs → Walking sh bs k at → stopAt sh (length bs) k at ≡ false
     → blockAt sh bs at ≡ Found m next → Come sh bs k at → Come sh bs (k + 1) next
 unfolding tab stopAt
 come-next sh bs k at m next raw there on found come =

@@ -2,3 +2,4 @@ pub mod Times
 pub mod Walk
 pub mod Answers
 pub mod Blocks
+pub mod Faults

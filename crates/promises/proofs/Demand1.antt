@@ -89,7 +89,7 @@ pub demand-1 : Demand1
 demand-1 =
     record {
       read-ends = read-ends;
-      read-placed = read-placed;
+      read-placed = λ buf raw start end. read-placed buf start end raw;
       list-ends = list-ends;
       message-ends = message-ends;
       recording-ends =

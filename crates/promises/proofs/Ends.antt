@@ -3,20 +3,20 @@ use mathlib.Core.Path.{_≡_, refl, sym, ap, _∙_}
 use mathlib.Core.List.{List}
 use mathlib.Core.Bool.{Bool, true, false, not}
 use mathlib.Core.Logic.{_⊎_, inl, inr, _≢_}
-use Prim.Native.Nat.{ℕ, _+_, _≤_, _<_}
+use Prim.Native.Nat.{ℕ, _+_, _-_, _≤_, _<_}
 use native.Mathlib.Omega.{arith}
 use native.Mathlib.Nat.{eq-zero-or-pos}
-use lib.ListN.{length}
 use lib.Dec.{eqb}
 use borrow.Author.Tests.{eqb-true}
 use Rattle.units.specs.Choice.{pick}
-use Rattle.units.proofs.Parts.{length-part}
+use Rattle.units.specs.Units.{Bytes}
+use Rattle.units.proofs.Parts.{bytes-part}
 use Rattle.body.specs.Walk.{refused, fault}
 use Rattle.body.specs.Answers.{noMessage}
 use Rattle.body.specs.declared.Refusal.{Refusal}
 use Rattle.body.specs.declared.Checked.{Checked}
 use Rattle.body.specs.declared.Checked.the-variants.{Counted, Faulty}
-use Rattle.body.proofs.Bounds.{faulty-place}
+use Rattle.body.proofs.Faults.{fault-at}
 use Rattle.frame.specs.Header.{flagsIn, dataLength, bodyAt, bodyIn}
 use Rattle.packet.specs.Read.{window, outerRefusal, bodyChecked, bodyAnswer, readPacket, noRefusal, noPacket, Told, told}
 use Rattle.packet.specs.Messages.{listPacket, listTold, messagePacket, messageTold}
@@ -27,7 +27,6 @@ use Rattle.packet.specs.declared.PacketList.{PacketList}
 use Rattle.packet.specs.declared.PacketList.the-variants.{Listed, Unlisted}
 use Rattle.packet.specs.declared.PacketMessage.{PacketMessage}
 use Rattle.packet.specs.declared.PacketMessage.the-variants.{Given, Withheld}
-use Rattle.packet.proofs.Answers.{outer-open}
 use Rattle.promises.specs.Endings.{Ends, readTold, listedTold, givenTold, Placed}
 use Rattle.packet.proofs.Told.{outer-top, read-told, read-numbered, list-told, list-numbered, message-told, message-numbered}
 
@@ -65,34 +64,32 @@ module _ (buf : List ℕ) (s e : ℕ) where
       go true z h = inr (eqb-true n 0 z, h)
       go false z h = inl cc
 
-  body-placed : (x : Checked) → bodyChecked (window buf s e) ≡ x → outerRefusal buf s e ≡ 0 → (r : Refusal) → bodyAnswer x (window buf s e) s ≡ Refused r
+  body-placed : Bytes buf → (x : Checked) → bodyChecked (window buf s e) ≡ x → (r : Refusal) → bodyAnswer x (window buf s e) s ≡ Refused r
       → Placed buf s e r
   unfolding bodyAnswer bodyChecked
-  body-placed (Counted n) q z r h = let c : _≡_ {A = ℕ} 0 1 = cc in absurd (omega arith)
-  body-placed (Faulty f) q z r h =
+  body-placed raw (Counted n) q r h = let c : _≡_ {A = ℕ} 0 1 = cc in absurd (omega arith)
+  body-placed raw (Faulty f) q r h =
       let w = window buf s e in
-      let o = outer-open buf s e z .sound in
-      let l : length (bodyIn w) ≡ dataLength w = length-part w (bodyAt (flagsIn w)) (dataLength w) (omega (arith, o .parts, o .there)) in
-      let p = faulty-place _ _ (bodyIn w) f q in
+      let bytes : Bytes (bodyIn w) = bytes-part w (bodyAt (flagsIn w)) (dataLength w) (bytes-part buf s (e - s) raw) in
       let is : fault (s + bodyAt (flagsIn w) + f .place) ≡ r = cc in
       rw (← is)
-      (record { room = refl; outer = λ h. absurd (omega (arith, h)); inner = λ h. (omega arith, omega (arith, l, p)) })
+      (record { room = refl; outer = λ h. absurd (omega (arith, h)); inner = λ h. (f .place, refl, fault-at _ _ (bodyIn w) f bytes q) })
 
-  refused-placed : (r : Refusal) → readPacket buf s e ≡ Refused r → Placed buf s e r
+  refused-placed : Bytes buf → (r : Refusal) → readPacket buf s e ≡ Refused r → Placed buf s e r
   unfolding readPacket
-  refused-placed r q = go (from-outer (outerRefusal buf s e) _ r refl q)
+  refused-placed raw r q = go (from-outer (outerRefusal buf s e) _ r refl q)
     where
       go : (r ≡ refused (outerRefusal buf s e) s 0) ⊎ ((outerRefusal buf s e ≡ 0) × (bodyAnswer (bodyChecked (window buf s e)) (window buf s e) s ≡ Refused r))
           → Placed buf s e r
       go (inl h) = rw h (record { room = refl; outer = λ l. refl; inner = λ n. absurd (omega (arith, n, outer-top buf s e)) })
-      go (inr h) = body-placed (bodyChecked (window buf s e)) refl (h .0) r (h .1)
+      go (inr h) = body-placed raw (bodyChecked (window buf s e)) refl r (h .1)
 
-  pub read-placed : told (readPacket buf s e) .refusal .number ≢ 0 → Placed buf s e (told (readPacket buf s e) .refusal)
-  read-placed = go (readPacket buf s e) refl
+  pub read-placed : Bytes buf → told (readPacket buf s e) .refusal .number ≢ 0 → Placed buf s e (told (readPacket buf s e) .refusal)
+  read-placed raw = go (readPacket buf s e) refl
     where
       go : (x : PacketRead) → readPacket buf s e ≡ x → told x .refusal .number ≢ 0 → Placed buf s e (told x .refusal)
       go (Accepted p) q h = absurd (h refl)
-      go (Refused r) q h = refused-placed r q
+      go (Refused r) q h = refused-placed raw r q
 
 -- ---- the lister and one message
 

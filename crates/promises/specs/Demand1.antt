@@ -5,7 +5,7 @@ use mathlib.Core.Bool.{true}
 use mathlib.Core.Logic.{_⊎_, _≢_}
 use Prim.Native.Nat.{ℕ, _+_, _≤_}
 use lib.ListN.{length, drop}
-use Rattle.units.specs.Units.{part}
+use Rattle.units.specs.Units.{Bytes, part}
 use Rattle.body.specs.Answers.{noMessage}
 use Rattle.builder.specs.Build.{bufAfter, told as Builder·told}
 use Rattle.builder.specs.declared.Step.{Step}
@@ -40,7 +40,7 @@ pub record Demand1 : Type 0 where
 
   -- the reader: a packet, or one of 1 to 15, and its place
   pub read-ends : (buf : List ℕ) (start end : ℕ) → Ends 15 readTold noPacket (told (readPacket buf start end))
-  pub read-placed : (buf : List ℕ) (start end : ℕ) → told (readPacket buf start end) .refusal .number ≢ 0
+  pub read-placed : (buf : List ℕ) → Bytes buf → (start end : ℕ) → told (readPacket buf start end) .refusal .number ≢ 0
       → Placed buf start end (told (readPacket buf start end) .refusal)
   -- the lister, with lists of any length: a count, or one of 1 to 16
   pub list-ends : (buf : List ℕ) (start end len₁ len₂ : ℕ) → Ends 16 listedTold 0 (listTold (listPacket buf start end len₁ len₂))

@@ -3,9 +3,11 @@ use mathlib.Core.Path.{_≡_}
 use mathlib.Core.List.{List}
 use mathlib.Core.Logic.{_⊎_}
 use Prim.Native.Nat.{ℕ, _+_, _≤_, _<_}
+use Rattle.body.specs.Faults.{AtFault}
 use Rattle.body.specs.declared.Refusal.{Refusal}
 use Rattle.body.specs.declared.Message.{Message}
-use Rattle.frame.specs.Header.{flagsIn, dataLength, bodyAt}
+use Rattle.frame.specs.Header.{flagsIn, kindIn, bodyAt, bodyIn}
+use Rattle.frame.specs.Rules.{messageRule}
 use Rattle.packet.specs.Read.{window, noRefusal, Told}
 use Rattle.packet.specs.Messages.{ListTold, MessageTold}
 use Rattle.packet.specs.Write.{WriteTold}
@@ -33,10 +35,14 @@ givenTold r m = record { refusal = r; message = m }
 abbrev pub writtenTold : Refusal → ℕ → WriteTold
 writtenTold r n = record { refusal = r; length = n }
 
--- where the reader's refusals are placed: 1 to 14 at the start, 15 in the packet's body or right behind it; none gives room
+-- where the body of the packet at the start of a window's bytes w is at fault: at the channel word, at the first byte of the block at fault
+-- or of the bytes left over, or where a missing block should begin; counted from the body's first byte
+abbrev pub BodyAtFault : List ℕ → ℕ → Type 0
+BodyAtFault w at = AtFault (kindIn w) (messageRule (flagsIn w)) (bodyIn w) at
+
+-- where the reader's refusals are placed: 1 to 14 at the start, 15 where the packet's body is at fault; none gives room
 pub record Placed (buf : List ℕ) (start end : ℕ) (r : Refusal) : Type 0 where
   pub room : r .room ≡ 0
   pub outer : r .number < 15 → r .place ≡ start
   pub inner : r .number ≡ 15
-      → (start + bodyAt (flagsIn (window buf start end)) ≤ r .place)
-      × (r .place ≤ start + bodyAt (flagsIn (window buf start end)) + dataLength (window buf start end))
+      → (at : ℕ) × (r .place ≡ start + bodyAt (flagsIn (window buf start end)) + at) × BodyAtFault (window buf start end) at
