@@ -1,14 +1,16 @@
 -- Demand 2 holds. Assumes nothing.
-use mathlib.Core.Path.{_≡_, sym, ap, _∙_}
+use mathlib.Core.Path.{_≡_, refl, sym, ap, _∙_}
 use mathlib.Core.List.{List, _++_}
 use Prim.Native.Nat.{ℕ, _+_, _≤_}
 use native.Mathlib.Omega.{arith}
 use lib.ListN.{length, take}
 use lib.Seq.{take-at}
 use Rattle.units.specs.Units.{Bytes, part}
-use Rattle.units.proofs.Parts.{length-part, part-add}
+use Rattle.units.proofs.Parts.{length-part, part-add, field-add}
+use Rattle.frame.specs.Header.{fieldsIn}
+use Rattle.frame.proofs.Stages.{the-time, no-time}
 use Rattle.body.specs.Walk.{opens}
-use Rattle.packet.specs.Read.{readPacket, Together, noRefusal, told}
+use Rattle.packet.specs.Read.{window, packetIn, readPacket, Together, noRefusal, told}
 use Rattle.packet.specs.Write.{writePacket, outAfter, WriteTold, writeTold}
 use Rattle.packet.specs.declared.Packet.{Packet}
 use Rattle.packet.specs.declared.PacketRead.{PacketRead}
@@ -18,6 +20,7 @@ use Rattle.packet.proofs.Told.{read-told}
 use Rattle.packet.proofs.Own.{accepted-at, fits, together}
 use Rattle.promises.specs.Contents.{Contents, Typed, packetOf, outputOf, contentsOf}
 use Rattle.promises.specs.Endings.{readTold, writtenTold}
+use Rattle.promises.specs.Reports.{PacketThere}
 use Rattle.promises.specs.Demand2.{bytesIn, Demand2}
 use Rattle.promises.proofs.Ends.{accepted-is}
 use Rattle.promises.proofs.Writer.{lengthIn, Right, written-says, right-written, right-accepts, accepts-right, length-of}
@@ -51,6 +54,29 @@ five-parts buf start p t =
       t .secondary,
       t .header,
     )
+
+packet-is : (w : List ℕ) (at : ℕ) → PacketThere w at (packetIn w at)
+unfolding packetIn fieldsIn
+packet-is w at =
+    record {
+      channel = refl;
+      long = refl;
+      datalength = refl;
+      version = refl;
+      sequence = refl;
+      flags = refl;
+      kind = refl;
+      rtc = refl;
+      headsum = refl;
+      time = λ e. sym (the-time w _ e refl) ∙ field-add w 24 4 4;
+      no-time = λ e. sym (no-time w e);
+      datasum = refl;
+      header = refl;
+      secondary = refl;
+      body = refl;
+      filler = refl;
+      sum = refl;
+    }
 
 -- ---- what is written
 
@@ -100,7 +126,9 @@ demand-2 =
             λ zero. accepted-keeps buf start end _ raw (read-told buf start end zero),
             λ keeps. ap (λ (x : PacketRead). told x .refusal .number) (keeps-accepted buf start end raw keeps .1),
           );
-      packet-there = λ buf start end p is. accepted-at buf start end p (accepted-is buf start end p is) .packet;
+      packet-there =
+          λ buf start end p is.
+          rw (accepted-at buf start end p (accepted-is buf start end p is) .packet) (packet-is (window buf start end) start);
       parts-there =
           λ buf start end p is. let t = together buf start end p (accepted-is buf start end p is) in (t, five-parts buf start p t);
       messages-there = λ buf raw start end p is. messages-there buf start end p raw (accepted-is buf start end p is);

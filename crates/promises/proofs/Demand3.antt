@@ -2,9 +2,9 @@
 use mathlib.Core.Path.{_≡_, refl, sym, ap, _∙_}
 use mathlib.Core.List.{List, [], _∷_, _++_, map, append-assoc, append-nil}
 use mathlib.Core.Logic.{_≢_}
-use Prim.Native.Nat.{ℕ, _+_, _≤_, _<_}
+use Prim.Native.Nat.{ℕ, suc, _+_, _≤_, _<_}
 use native.Mathlib.Omega.{arith}
-use native.Mathlib.Nat.{sub-zero}
+use native.Mathlib.Nat.{sub-zero, zero-add, suc-add}
 use lib.ListN.{length, take, drop}
 use lib.Seq.{take-at, drop-at, take-length}
 use Rattle.body.specs.Walk.{refused}
@@ -92,6 +92,19 @@ first-once cs bs f g =
     sym (drop-at (f .before) _ (length (f .before)) refl) ∙ ap (drop (length (f .before))) s ∙ drop-at (g .before) _ (length (f .before)) (sym n) in
     (b, cc d, cc d, ap (λ (r : Recording). r .refusal .number) e)
 
+all-intact : (cs : List Contents) → AllAccepted cs → Pieces cs 0 (written cs)
+unfolding written
+all-intact [] nil = none
+all-intact (c ∷ cs) (cons a good) = intact a (all-intact cs good)
+
+any-altered : (cs ds : List Contents) (j k : ℕ) (xs zs : List ℕ) → Pieces cs j xs → (c : Contents) → Accepts c → (n : ℕ) (ys : List ℕ) → Altered c n ys
+    → Pieces ds k zs → Pieces (cs ++ (c ∷ ds)) (j + suc k) (xs ++ (ys ++ zs))
+any-altered _ ds _ k _ zs none c a n ys h q = rw (zero-add (suc k)) (altered a h q)
+any-altered _ ds _ k _ zs (intact {c = d} {cs = cs} {k = j} {bs = bs} b p) c a n ys h q =
+    rw (append-assoc (packetOf d) bs (ys ++ zs)) (intact b (any-altered cs ds j k bs zs p c a n ys h q))
+any-altered _ ds _ k _ zs (altered {c = d} {n = m} {ys = vs} {cs = cs} {k = j} {bs = bs} b g p) c a n ys h q =
+    rw (suc-add j (suc k), append-assoc vs bs (ys ++ zs)) (altered b g (any-altered cs ds j k bs zs p c a n ys h q))
+
 pub demand-3 : Demand3
 demand-3 =
     record {
@@ -103,6 +116,8 @@ demand-3 =
           (f, stops (f .before) (f .written-before) (f .first) (f .writable) (f .number) (f .found) (f .alteration) (f .rest) buf start end order within (holds ∙ f .bytes));
       stops-at-altered = stops;
       first-once = first-once;
+      all-intact = all-intact;
+      any-altered = any-altered;
       none-altered = λ cs bs p. untouched p;
       every-change-named = change-named;
       every-byte-named = every-byte-named;

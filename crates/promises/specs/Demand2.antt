@@ -10,7 +10,7 @@ use Rattle.body.specs.Walk.{refused, opens}
 use Rattle.body.specs.Answers.{noMessage}
 use Rattle.body.specs.Blocks.{Entry}
 use Rattle.frame.specs.Header.{kindIn}
-use Rattle.packet.specs.Read.{window, packetIn, readPacket, Together, noRefusal, told}
+use Rattle.packet.specs.Read.{window, readPacket, Together, noRefusal, told}
 use Rattle.packet.specs.Messages.{listPacket, messagePacket, listTold, messageTold}
 use Rattle.packet.specs.Write.{writePacket, writeTold}
 use Rattle.packet.specs.declared.Part.{Part}
@@ -18,7 +18,7 @@ use Rattle.packet.specs.declared.Packet.{Packet}
 use Rattle.promises.specs.Contents.{Contents, Typed, outputOf, contentsOf}
 use Rattle.promises.specs.Endings.{readTold, listedTold, givenTold, writtenTold}
 use Rattle.promises.specs.Keeps.{Keeps}
-use Rattle.promises.specs.Reports.{Reports}
+use Rattle.promises.specs.Reports.{PacketThere, Reports}
 
 -- the bytes of a part
 abbrev pub bytesIn : List ℕ → Part → List ℕ
@@ -33,7 +33,7 @@ pub record Demand2 : Type 0 where
 
   -- each field is the one in the header, each part stands where the header says
   pub packet-there : (buf : List ℕ) (start end : ℕ) (p : Packet) → told (readPacket buf start end) ≡ readTold noRefusal p
-      → p ≡ packetIn (window buf start end) start
+      → PacketThere (window buf start end) start p
   -- the parts stand one behind the other from the start on, and are all of the packet's bytes
   pub parts-there : (buf : List ℕ) (start end : ℕ) (p : Packet) → told (readPacket buf start end) ≡ readTold noRefusal p
       → Together start p

@@ -1,8 +1,8 @@
 -- Demand 3, sentence by sentence; proved in proofs/Demand3.antt (demand-3).
 use mathlib.Core.Path.{_≡_}
-use mathlib.Core.List.{List, _++_}
+use mathlib.Core.List.{List, _∷_, _++_}
 use mathlib.Core.Logic.{_⊎_, _≢_}
-use Prim.Native.Nat.{ℕ, _+_, _≤_, _<_}
+use Prim.Native.Nat.{ℕ, suc, _+_, _≤_, _<_}
 use lib.ListN.{length}
 use Rattle.units.specs.Units.{Bytes, splice}
 use Rattle.body.specs.Walk.{refused}
@@ -34,7 +34,11 @@ pub record Demand3 : Type 0 where
   -- There is one first altered packet.
   pub first-once : (cs : List Contents) (bs : List ℕ) (f g : FirstAltered cs bs)
       → (f .before ≡ g .before) × (f .first ≡ g .first) × (f .behind ≡ g .behind) × (f .number ≡ g .number)
-  -- Nothing is left out. Where no packet is altered, the bytes are those of the list;
+  -- Nothing is left out. Any list may be left as it was written, and any packet of one altered, whatever is done to the others;
+  pub all-intact : (cs : List Contents) → AllAccepted cs → Pieces cs 0 (written cs)
+  pub any-altered : (cs ds : List Contents) (j k : ℕ) (xs zs : List ℕ) → Pieces cs j xs → (c : Contents) → Accepts c → (n : ℕ) (ys : List ℕ) → Altered c n ys
+      → Pieces ds k zs → Pieces (cs ++ (c ∷ ds)) (j + suc k) (xs ++ (ys ++ zs))
+  -- where no packet is altered, the bytes are those of the list;
   pub none-altered : (cs : List Contents) (bs : List ℕ) → Pieces cs 0 bs → AllAccepted cs × (bs ≡ written cs)
   -- any other bytes in the place of a unit's are an alteration;
   pub every-change-named : (c : Contents) → Typed c → (n at width : ℕ) → UnitOf c n at width → (new : List ℕ) → length new ≡ width → Bytes new
