@@ -29,6 +29,7 @@ use Rattle.promises.specs.Endings.{Ends, readTold, listedTold, givenTold
 use Rattle.promises.specs.Table.{table, writerTable}
 use Rattle.promises.specs.Document01.{WritesOrNot, Document01}
 use Rattle.promises.proofs.Ends.{above}
+use Rattle.promises.proofs.Building.{building}
 use Rattle.promises.proofs.Writer.{lengthIn, right-written, accepts-right, length-of}
 
 -- ---- the tables
@@ -125,6 +126,7 @@ document-01 =
       message-as-read = message-as-read;
       recording-handed =
           λ buf start end. (reading buf start end .packets, hands-out buf start end, λ qs h. hands-out-once buf start end _ qs h .1);
+      builder-answers = building;
       built-reads-back = λ buf d es rule b. built-reads-back rule b;
       built-closes = λ buf d e es b. built-closes b;
       write-ends = write-ends;

@@ -3,6 +3,7 @@ pub mod Regions
 pub mod Written
 pub mod Again
 pub mod Keeping
+pub mod Building
 pub mod Reported
 pub mod Spoilt
 pub mod Alterations

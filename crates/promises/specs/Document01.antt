@@ -26,6 +26,7 @@ use Rattle.recording.specs.Reading.{readRecording}
 use Rattle.recording.specs.Handed.{HandsOut}
 use Rattle.promises.specs.Contents.{Contents, packetOf, Accepts, outputOf}
 use Rattle.promises.specs.Endings.{Ends, readTold, listedTold, givenTold, writtenTold}
+use Rattle.promises.specs.Building.{Building}
 use Rattle.promises.specs.Table.{table, writerTable}
 
 -- the writer's answer where 17, 5 to 9 and 12 have nothing against it: 15 by the body, then 16 with the packet's length as room
@@ -53,7 +54,9 @@ pub record Document01 : Type 0 where
   -- exactly how many. The lengths of the accepted packets add up to the distance covered." One list of packets is so, and no other.
   pub recording-handed : (buf : List ℕ) (start end : ℕ)
       → (ps : List Packet) × HandsOut buf start end (readRecording buf start end) ps × ((qs : List Packet) → HandsOut buf start end (readRecording buf start end) qs → qs ≡ ps)
-  -- Builder: "From a fresh state handed on step by step and closed last, the buffer untouched between, the body, at any size, reads back
+  -- Builder: what each step answers, each refusal in its order
+  pub builder-answers : Building
+  -- "From a fresh state handed on step by step and closed last, the buffer untouched between, the body, at any size, reads back
   -- by the layout above and its time rule as the blocks added."
   pub built-reads-back : (buf : List ℕ) (d : Draft) (es : List Entry) (rule : TimeRule) → Built buf d es → Builder·told (closeStep d (length buf)) .number ≡ 0
       → (stamped (d .rule) ≡ true → rule ≡ ruleOf (d .rule))

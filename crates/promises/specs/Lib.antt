@@ -2,6 +2,7 @@ pub mod Calls
 pub mod Contents
 pub mod Endings
 pub mod Keeps
+pub mod Building
 pub mod Reports
 pub mod Altered
 pub mod ReadsAs
