@@ -7,7 +7,7 @@ use native.Mathlib.Omega.{arith}
 use native.Mathlib.Nat.{mod-eq-of-lt}
 use lib.Dec.{ltb, leb, eqb}
 use borrow.Author.Tests.{eqb-true, eq-eqb, ne-eqb, ltb-true, lt-ltb, le-ltb, lt-leb}
-use Rattle.units.proofs.Choices.{and-true}
+use Rattle.units.proofs.Choices.{or-true, and-true}
 use Rattle.body.specs.Times.{timeOk, ruleOf}
 use Rattle.body.specs.Walk.{stampLength}
 use Rattle.builder.specs.Build.{stamped, counts, makes, badDraft, openStep, badBlock, badTime, strayTime, grown, added, addStep, closeStep}
@@ -26,10 +26,6 @@ unmet : {A : Type 0} (t : Bool) → (t ≡ true → A) → ¬ A → t ≡ false
 unmet true f n = absurd (n (f refl))
 unmet false f n = refl
 
-either : (a b : Bool) → (a || b) ≡ true → (a ≡ true) ⊎ (b ≡ true)
-either true b e = inl refl
-either false b e = inr e
-
 -- what opening takes
 makes-says : (kind rule : ℕ) → makes kind rule ≡ true → Opens kind rule
 makes-says kind rule t =
@@ -39,7 +35,7 @@ makes-says kind rule t =
     ⊎-elim
     (λ h. let p = and-true (eqb kind 0x30) (stamped rule) h in inl (eqb-true kind 0x30 (p .0), ltb-true 0 rule (p .1), omega arith))
     (λ h. inr (eqb-true kind 0x50 h, omega arith))
-    (either message (eqb kind 0x50) (o .0))
+    (or-true message (eqb kind 0x50) (o .0))
 
 makes-made : (kind rule : ℕ) → Opens kind rule → makes kind rule ≡ true
 makes-made kind rule (inl (k, some, few)) = rw (k, lt-ltb 0 rule some, lt-ltb rule 5 (omega arith))

@@ -26,7 +26,7 @@ use Rattle.promises.proofs.Ends.{accepted-is}
 use Rattle.promises.proofs.Writer.{lengthIn, Right, written-says, right-written, right-accepts, accepts-right, length-of}
 use Rattle.promises.proofs.Written.{read-written}
 use Rattle.promises.proofs.Again.{read-again}
-use Rattle.promises.proofs.Keeping.{keeps-accepted, accepted-keeps}
+use Rattle.promises.proofs.Keeping.{accepted-exactly}
 use Rattle.promises.proofs.Reported.{messages-there, carried-none}
 
 -- ---- what is reported
@@ -121,11 +121,7 @@ again buf raw start end p is out room =
 pub demand-2 : Demand2
 demand-2 =
     record {
-      accepted-exactly =
-          λ buf raw start end. (
-            λ zero. accepted-keeps buf start end _ raw (read-told buf start end zero),
-            λ keeps. ap (λ (x : PacketRead). told x .refusal .number) (keeps-accepted buf start end raw keeps .1),
-          );
+      accepted-exactly = accepted-exactly;
       packet-there =
           λ buf start end p is.
           rw (accepted-at buf start end p (accepted-is buf start end p is) .packet) (packet-is (window buf start end) start);

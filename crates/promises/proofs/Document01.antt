@@ -29,6 +29,7 @@ use Rattle.promises.specs.Endings.{Ends, readTold, listedTold, givenTold
 use Rattle.promises.specs.Table.{table, writerTable}
 use Rattle.promises.specs.Document01.{WritesOrNot, Document01}
 use Rattle.promises.proofs.Ends.{above}
+use Rattle.promises.proofs.Keeping.{refused-exactly}
 use Rattle.promises.proofs.Building.{building}
 use Rattle.promises.proofs.Writer.{lengthIn, right-written, accepts-right, length-of}
 
@@ -121,6 +122,7 @@ pub document-01 : Document01
 document-01 =
     record {
       read-table = tabled;
+      read-first = refused-exactly;
       read-behind = behind-table;
       list-as-read = list-as-read;
       message-as-read = message-as-read;

@@ -1,5 +1,6 @@
--- A packet is accepted exactly when every rule holds: each of the reader's tests says what document 01 says. Assumes nothing.
-use mathlib.Core.Path.{_≡_, refl, sym, ap, _∙_}
+-- A packet is accepted exactly when every rule holds, and refused by the first that does not: each of the reader's tests says what document 01
+-- says. Assumes nothing.
+use mathlib.Core.Path.{_≡_, refl, sym, ap, subst, _∙_}
 use mathlib.Core.List.{List, [], _∷_, _++_}
 use mathlib.Core.Bool.{Bool, true, false, not, _&&_, _||_, false≢true}
 use mathlib.Core.Logic.{_↔_, _⊎_, inl, inr, ⊎-elim, _≢_}
@@ -13,7 +14,7 @@ use lib.Dec.{leb, eqb}
 use borrow.Author.Tests.{eqb-true, eqb-false, eq-eqb, ne-eqb, leb-true, le-leb, ltb-true, lt-ltb, not-true}
 use Rattle.units.specs.Units.{Bytes, part, field, sumUnits, checksum, zeros}
 use Rattle.units.specs.Choice.{pick}
-use Rattle.units.proofs.Choices.{and-true}
+use Rattle.units.proofs.Choices.{and-true, or-true}
 use Rattle.units.proofs.Numbers.{zeros-true, zeros-are}
 use Rattle.units.proofs.Parts.{length-part, bytes-part, field-part, field-zero, field-add}
 use Rattle.units.proofs.Sums.{sum-prefix, summed-says, summed-made}
@@ -27,21 +28,16 @@ use Rattle.body.proofs.Exactly.{body-of-blocks, body-is-blocks}
 use Rattle.frame.specs.Header.{byte, sync, flagsIn, kindIn, channelIn, versionIn, secondaryBit, absoluteBit, timeFormat, sumLength, unfilledLength, bodyAt, secondaryIn, bodyIn, reservedIn, timeIn}
 use Rattle.frame.specs.Rules as Rules
 use Rattle.frame.specs.Rules.{messageRule}
-use Rattle.frame.specs.Table.{secondaryLines}
+use Rattle.frame.specs.Table.{line, first, headLines, valueLines, wholeLines, secondaryLines, trailerLines, frameLines}
 use Rattle.frame.proofs.Tables.{holds}
 use Rattle.frame.proofs.Stages.{no-secondary}
-use Rattle.frame.proofs.Frames.{Framed, framed-says, framed-passes, lengths-say}
-use Rattle.packet.specs.Read.{window, packetIn, bodyChecked, readPacket}
-use Rattle.packet.specs.declared.Packet.{Packet}
-use Rattle.packet.specs.declared.PacketRead.the-variants.{Accepted}
-use Rattle.packet.proofs.Answers.{outer-open, outer-inside}
-use Rattle.packet.proofs.Own.{accepted-at, at-accepted}
-use Rattle.promises.specs.Keeps.{definedTypes, OneOf, P, D, width, Keeps}
+use Rattle.frame.proofs.Frames.{lengths-say}
+use Rattle.packet.specs.Read.{inside, window, outerLines, bodyChecked, readPacket, told}
+use Rattle.packet.proofs.Told.{read-numbered}
+use Rattle.promises.proofs.BodiesKept.{opens-exactly, body-kept, time-says, time-made}
+use Rattle.promises.specs.Keeps.{definedTypes, OneOf, P, D, width, Rule, within, enough, synced, headerSum, version, type, flags, channel, lengths, whole, secondarySum, secondary, dataSum, filler, messages, Keeps}
 use Rattle.promises.proofs.Again.{field-below, byte-below}
-
-or-true : (a b : Bool) → (a || b) ≡ true → (a ≡ true) ⊎ (b ≡ true)
-or-true true b e = inl refl
-or-true false b e = inr e
+use Rattle.promises.proofs.Refusing.{Below, FirstBroken, tests, all-tested, counted, counted-says, number-is}
 
 -- ---- 3: sync
 
@@ -190,17 +186,7 @@ absent w e =
     let h₁₂ = holds _ _ _ tt (h₁₁ .1) in
     (h₁₁ .0, h₁₂ .0)
 
-time-says : (m t : ℕ) → timeOk (ruleOf (2 + m)) t ≡ true → (m ≡ 0 → t % 2 ^ 16 ≡ 0) × (m ≡ 1 → t % 2 ^ 32 < 1000000000)
-unfolding timeOk ruleOf
-time-says m t h = (λ e. eqb-true (t % 2 ^ 16) 0 (rw e at h), λ e. ltb-true (t % 2 ^ 32) 1000000000 (rw e at h))
 
-time-made : (m t : ℕ) → (m ≡ 0 → t % 2 ^ 16 ≡ 0) → (m ≡ 1 → t % 2 ^ 32 < 1000000000) → timeOk (ruleOf (2 + m)) t ≡ true
-unfolding timeOk ruleOf
-time-made zero t low nano = eq-eqb (t % 2 ^ 16) 0 (low refl)
-time-made (suc zero) t low nano = lt-ltb (t % 2 ^ 32) 1000000000 (nano refl)
-time-made (suc (suc m)) t low nano =
-    let n = 2 + suc (suc m) in
-    rw (ne-eqb n 1 (λ e. omega arith), ne-eqb n 2 (λ e. omega arith), ne-eqb n 3 (λ e. omega arith))
 
 -- where there is one
 module _ (w : List ℕ) (there : secondaryBit (flagsIn w) ≡ 1) where
@@ -313,32 +299,6 @@ zeros-exactly w a b fits = (says, made)
         let in-part : i < b - a = omega (arith, h, length-take (b - a) (drop a w)) in
         shows i in-part ∙ r (a + i) (omega arith) (omega arith)
 
--- ---- 2 to 14 together
-
-keeps-framed : (buf : List ℕ) (s e : ℕ) (w : List ℕ) → Bytes w → Keeps buf s e w → Framed w
-keeps-framed buf s e w raw k =
-    let f = flagsIn w in
-    let lengths = parts-exactly f (P w) (D w) .1 (k .parts) in
-    record {
-      enough = le-leb 24 (length w) (k .enough);
-      synced = sync-made w (k .synced);
-      headerSummed = summed-made 2 11 w (sym (k .headerSum));
-      values =
-          record {
-            versionOk = version-exactly (versionIn w) .1 (k .version);
-            typeOk = type-made (kindIn w) (k .type);
-            flagsOk = flags-exactly f .1 (k .format, k .absolute);
-            channelOk = channel-exactly (channelIn w) (kindIn w) .1 (k .channel);
-            lengthsOk =
-                lengths-made (kindIn w) f (P w) (D w) (k .fours) (limit-exactly (kindIn w) (P w) .1 (k .most)) (k .some) (lengths .0) (lengths .1);
-          };
-      whole = le-leb (P w) (length w) (k .whole);
-      secondarySummed = secondary-sum-exactly w (omega (arith, lengths .0, k .whole)) .1 (k .secondarySum);
-      secondaryOk = secondary-made w raw (record { reserved = k .reserved; chapter4 = k .chapter4; ieee1588 = k .ieee1588 });
-      dataSummed = data-sum-exactly w (bodyAt f) (P w - width w) (width w) (omega (arith, lengths .0)) (omega (arith, k .whole)) .1 (k .dataSum);
-      fillerOk = zeros-exactly w (bodyAt f + D w) (P w - width w) (omega (arith, k .whole)) .1 (k .filler);
-    }
-
 -- ---- 15: the body
 
 -- a body of a type that isn't opened passes, with no message
@@ -349,62 +309,168 @@ carried-counted kind rule bs o = rw o
 -- a body that keeps rule 15 is counted
 kept-counted : (kind : ℕ) (rule : TimeRule) (bs : List ℕ) → (opens kind ≡ true → (es : List Entry) × BodyOf kind rule bs es)
     → (n : ℕ) × (checkBody kind rule bs ≡ Counted n)
-kept-counted kind rule bs messages = go (opens kind) refl
+kept-counted kind rule bs kept = go (opens kind) refl
   where
     go : (o : Bool) → opens kind ≡ o → (n : ℕ) × (checkBody kind rule bs ≡ Counted n)
-    go true o = let m = messages o in (length (m .0), body-of-blocks kind rule bs (m .0) (m .1) .0)
+    go true o = let m = kept o in (length (m .0), body-of-blocks kind rule bs (m .0) (m .1) .0)
     go false o = (0, carried-counted kind rule bs o)
 
--- ---- accepted exactly when every rule holds
+-- ---- a rule that is kept passes its test
 
--- a packet that keeps every rule is accepted
-pub keeps-accepted : (buf : List ℕ) (s e : ℕ) → Bytes buf → Keeps buf s e (window buf s e) → (p : Packet) × (readPacket buf s e ≡ Accepted p)
-unfolding bodyChecked
-keeps-accepted buf s e raw k =
-    let w = window buf s e in
-    let framed = framed-passes w (keeps-framed buf s e w (bytes-part buf s (e - s) raw) k) in
-    let passes = outer-open buf s e (sym (outer-inside buf s e 0 (k .ordered) (k .within) (sym framed))) in
-    let c = kept-counted (kindIn w) (messageRule (flagsIn w)) (bodyIn w) (k .messages) in
-    (packetIn w s, at-accepted buf s e (packetIn w s) (record { opens = passes; count = c .0; body = c .1; packet = refl }))
+module _ (buf : List ℕ) (s e : ℕ) (w : List ℕ) where
+  passes₁ : Rule buf s e w 1 → inside buf s e ≡ true
+  passes₁ (within ordered filled) = rw (le-leb s e ordered, le-leb e (length buf) filled)
 
--- and no other
-pub accepted-keeps : (buf : List ℕ) (s e : ℕ) (p : Packet) → Bytes buf → readPacket buf s e ≡ Accepted p → Keeps buf s e (window buf s e)
-unfolding bodyChecked
-accepted-keeps buf s e p raw h =
-    let w = window buf s e in
-    let bytes : Bytes w = bytes-part buf s (e - s) raw in
-    let body : Bytes (bodyIn w) = bytes-part w (bodyAt (flagsIn w)) (D w) bytes in
-    let a = accepted-at buf s e p h in
-    let t = framed-says w (a .opens .framed) in
-    let f = flagsIn w in
-    let rule = messageRule f in
-    let enough = leb-true 24 (length w) (t .enough) in
-    let whole = leb-true (P w) (length w) (t .whole) in
-    let flags = flags-exactly f .0 (t .values .flagsOk) in
-    let lengths = lengths-say (kindIn w) f (P w) (D w) (t .values .lengthsOk) in
-    let secondary = secondary-says w bytes (t .secondaryOk) in
-    record {
-      ordered = a .opens .ordered;
-      within = a .opens .within;
-      enough = enough;
-      synced = sync-says w enough (t .synced);
-      headerSum = sym (summed-says 2 11 w (t .headerSummed));
-      version = version-exactly (versionIn w) .0 (t .values .versionOk);
-      type = type-says (kindIn w) (byte-below w 15 bytes) (t .values .typeOk);
-      format = flags .0;
-      absolute = flags .1;
-      channel = channel-exactly (channelIn w) (kindIn w) .0 (t .values .channelOk);
-      fours = lengths .fours;
-      most = limit-exactly (kindIn w) (P w) .0 (lengths .within);
-      some = lengths .some;
-      parts = parts-exactly f (P w) (D w) .0 (lengths .parts, lengths .few);
-      whole = whole;
-      secondarySum = secondary-sum-exactly w (omega (arith, lengths .parts, whole)) .0 (t .secondarySummed);
-      reserved = secondary .reserved;
-      chapter4 = secondary .chapter4;
-      ieee1588 = secondary .ieee1588;
-      dataSum = data-sum-exactly w (bodyAt f) (P w - width w) (width w) (omega (arith, lengths .parts)) (omega (arith, whole)) .0 (t .dataSummed);
-      filler = zeros-exactly w (bodyAt f + D w) (P w - width w) (omega (arith, whole)) .0 (t .fillerOk);
-      messages =
-          λ o. (entriesIn (kindIn w) rule (bodyIn w) (a .count), body-is-blocks (kindIn w) rule (bodyIn w) (a .count) body o (a .body) .1);
-    }
+  passes₂ : Rule buf s e w 2 → Rules.enough w ≡ true
+  passes₂ (enough h) = le-leb 24 (length w) h
+
+  passes₃ : Rule buf s e w 3 → Rules.synced w ≡ true
+  passes₃ (synced h) = sync-made w h
+
+  passes₄ : Rule buf s e w 4 → Rules.headerSummed w ≡ true
+  passes₄ (headerSum h) = summed-made 2 11 w (sym h)
+
+  passes₅ : Rule buf s e w 5 → Rules.versionOk (versionIn w) ≡ true
+  passes₅ (version h) = version-exactly (versionIn w) .1 h
+
+  passes₆ : Rule buf s e w 6 → Rules.typeOk (kindIn w) ≡ true
+  passes₆ (type h) = type-made (kindIn w) h
+
+  passes₇ : Rule buf s e w 7 → Rules.flagsOk (flagsIn w) ≡ true
+  passes₇ (flags format absolute) = flags-exactly (flagsIn w) .1 (format, absolute)
+
+  passes₈ : Rule buf s e w 8 → Rules.channelOk (channelIn w) (kindIn w) ≡ true
+  passes₈ (channel h) = channel-exactly (channelIn w) (kindIn w) .1 h
+
+  passes₉ : Rule buf s e w 9 → Rules.lengthsOk (kindIn w) (flagsIn w) (P w) (D w) ≡ true
+  passes₉ (lengths fours most some parts) =
+      let p = parts-exactly (flagsIn w) (P w) (D w) .1 parts in
+      lengths-made (kindIn w) (flagsIn w) (P w) (D w) fours (limit-exactly (kindIn w) (P w) .1 most) some (p .0) (p .1)
+
+  passes₁₀ : Rule buf s e w 10 → Rules.whole w ≡ true
+  passes₁₀ (whole h) = le-leb (P w) (length w) h
+
+  passes₁₁ : bodyAt (flagsIn w) ≤ length w → Rule buf s e w 11 → Rules.secondarySummed w ≡ true
+  passes₁₁ long (secondarySum h) = secondary-sum-exactly w long .1 h
+
+  passes₁₂ : Bytes w → Rule buf s e w 12 → Rules.secondaryOk w ≡ true
+  passes₁₂ raw (secondary reserved chapter4 ieee1588) =
+      secondary-made w raw (record { reserved = reserved; chapter4 = chapter4; ieee1588 = ieee1588 })
+
+  passes₁₃ : bodyAt (flagsIn w) ≤ P w - width w → P w - width w ≤ length w → Rule buf s e w 13 → Rules.dataSummed w ≡ true
+  passes₁₃ behind long (dataSum h) = data-sum-exactly w (bodyAt (flagsIn w)) (P w - width w) (width w) behind long .1 h
+
+  passes₁₄ : P w - width w ≤ length w → Rule buf s e w 14 → Rules.fillerOk w ≡ true
+  passes₁₄ long (filler h) = zeros-exactly w (bodyAt (flagsIn w) + D w) (P w - width w) long .1 h
+
+  -- the messages of a body that keeps 15
+  pub kept-messages : Rule buf s e w 15 → opens (kindIn w) ≡ true → (es : List Entry) × BodyOf (kindIn w) (messageRule (flagsIn w)) (bodyIn w) es
+  kept-messages (messages h) o =
+      let m = h (opens-exactly (kindIn w) .0 o) in
+      (m .0, body-kept (kindIn w) (flagsIn w) (bodyIn w) (m .0) o .1 (m .1))
+
+  passes₁₅ : Rule buf s e w 15 → counted (bodyChecked w) ≡ true
+  unfolding bodyChecked
+  passes₁₅ h = rw (kept-counted (kindIn w) (messageRule (flagsIn w)) (bodyIn w) (kept-messages h) .1)
+
+-- ---- and a test that is passed says its rule, where those before it are kept
+
+module _ (buf : List ℕ) (s e : ℕ) (w : List ℕ) (raw : Bytes w) where
+  abbrev Holds : ℕ → Type 0
+  Holds = Rule buf s e w
+
+  says₁ : inside buf s e ≡ true → Holds 1
+  says₁ t = let i = and-true (leb s e) (leb e (length buf)) t in within (leb-true s e (i .0)) (leb-true e (length buf) (i .1))
+
+  says₇ : Rules.flagsOk (flagsIn w) ≡ true → Holds 7
+  says₇ t = let f = flags-exactly (flagsIn w) .0 t in flags (f .0) (f .1)
+
+  says₉ : Rules.lengthsOk (kindIn w) (flagsIn w) (P w) (D w) ≡ true → Holds 9
+  says₉ t =
+      let l = lengths-say (kindIn w) (flagsIn w) (P w) (D w) t in
+      lengths (l .fours) (limit-exactly (kindIn w) (P w) .0 (l .within)) (l .some) (parts-exactly (flagsIn w) (P w) (D w) .0 (l .parts, l .few))
+
+  says₁₂ : Rules.secondaryOk w ≡ true → Holds 12
+  says₁₂ t = let r = secondary-says w raw t in secondary (r .reserved) (r .chapter4) (r .ieee1588)
+
+  says₁₅ : counted (bodyChecked w) ≡ true → Holds 15
+  unfolding bodyChecked
+  says₁₅ t =
+      let kind = kindIn w in
+      let rule = messageRule (flagsIn w) in
+      let (n, is) = counted-says (checkBody kind rule (bodyIn w)) t in
+      messages λ h.
+      let o = opens-exactly kind .1 h in
+      let es = entriesIn kind rule (bodyIn w) n in
+      (es, body-kept kind (flagsIn w) (bodyIn w) es o .0 (body-is-blocks kind rule (bodyIn w) n (bytes-part w (bodyAt (flagsIn w)) (D w) raw) o is .1))
+
+  -- 11 to 15, of a packet that is there
+  trailing : unfilledLength (flagsIn w) (D w) ≤ P w → P w ≤ length w → Below Holds 11
+      → FirstBroken Holds 15 (first (secondaryLines w ++ (trailerLines w ++ (line 15 (counted (bodyChecked w)) ∷ []))))
+  unfolding secondaryLines trailerLines
+  trailing parts there r₁₀ =
+      let f = flagsIn w in
+      let sum = P w - width w in
+      let long : bodyAt f ≤ length w = omega (arith, parts, there) in
+      let behind : bodyAt f ≤ sum = omega (arith, parts) in
+      let before : sum ≤ length w = omega (arith, there) in
+      let sum-is = secondary-sum-exactly w long .0 in
+      let data-is = data-sum-exactly w (bodyAt f) sum (width w) behind before .0 in
+      let zeros-are = zeros-exactly w (bodyAt f + D w) sum before .0 in
+      tests Holds 15 11 _ _ (omega arith) (λ t. secondarySum (sum-is t)) (passes₁₁ buf s e w long) r₁₀ λ _ r₁₁.
+      tests Holds 15 12 _ _ (omega arith) says₁₂ (passes₁₂ buf s e w raw) r₁₁ λ _ r₁₂.
+      tests Holds 15 13 _ _ (omega arith) (λ t. dataSum (data-is t)) (passes₁₃ buf s e w behind before) r₁₂ λ _ r₁₃.
+      tests Holds 15 14 _ _ (omega arith) (λ t. filler (zeros-are t)) (passes₁₄ buf s e w before) r₁₃ λ _ r₁₄.
+      tests Holds 15 15 _ _ (omega arith) says₁₅ (passes₁₅ buf s e w) r₁₄ λ _ r₁₅.
+      all-tested Holds 15 r₁₅
+
+  -- 1 to 15
+  table-first : FirstBroken Holds 15 (first (line 1 (inside buf s e) ∷ (frameLines w ++ (line 15 (counted (bodyChecked w)) ∷ []))))
+  unfolding frameLines headLines valueLines wholeLines secondaryLines trailerLines
+  table-first =
+      tests Holds 15 1 _ _ (omega arith) says₁ (passes₁ buf s e w) (λ m one less. absurd (omega arith)) λ _ r₁.
+      tests Holds 15 2 _ _ (omega arith) (λ t. enough (leb-true 24 (length w) t)) (passes₂ buf s e w) r₁ λ t₂ r₂.
+      tests Holds 15 3 _ _ (omega arith) (λ t. synced (sync-says w (leb-true 24 (length w) t₂) t)) (passes₃ buf s e w) r₂ λ _ r₃.
+      tests Holds 15 4 _ _ (omega arith) (λ t. headerSum (sym (summed-says 2 11 w t))) (passes₄ buf s e w) r₃ λ _ r₄.
+      tests Holds 15 5 _ _ (omega arith) (λ t. version (version-exactly (versionIn w) .0 t)) (passes₅ buf s e w) r₄ λ _ r₅.
+      tests Holds 15 6 _ _ (omega arith) (λ t. type (type-says (kindIn w) (byte-below w 15 raw) t)) (passes₆ buf s e w) r₅ λ _ r₆.
+      tests Holds 15 7 _ _ (omega arith) says₇ (passes₇ buf s e w) r₆ λ _ r₇.
+      tests Holds 15 8 _ _ (omega arith) (λ t. channel (channel-exactly (channelIn w) (kindIn w) .0 t)) (passes₈ buf s e w) r₇ λ _ r₈.
+      tests Holds 15 9 _ _ (omega arith) says₉ (passes₉ buf s e w) r₈ λ t₉ r₉.
+      tests Holds 15 10 _ _ (omega arith) (λ t. whole (leb-true (P w) (length w) t)) (passes₁₀ buf s e w) r₉ λ t₁₀ r₁₀.
+      trailing (lengths-say (kindIn w) (flagsIn w) (P w) (D w) t₉ .parts) (leb-true (P w) (length w) t₁₀) r₁₀
+
+-- ---- accepted exactly when every rule holds, and refused with n exactly when n is the first that does not
+
+module _ (buf : List ℕ) (raw : Bytes buf) (start end : ℕ) where
+  abbrev number : ℕ
+  number = told (readPacket buf start end) .refusal .number
+
+  abbrev Kept : ℕ → Type 0
+  Kept = Rule buf start end (window buf start end)
+
+  number-first : FirstBroken Kept 15 number
+  unfolding outerLines
+  number-first = rw (number-is buf start end) (table-first buf start end (window buf start end) (bytes-part buf start (end - start) raw))
+
+  pub accepted-exactly : (told (readPacket buf start end) .refusal .number ≡ 0) ↔ Keeps buf start end (window buf start end)
+  accepted-exactly = (number-first .kept, λ keeps. go keeps (decLe 1 number))
+    where
+      go : Keeps buf start end (window buf start end) → Dec (1 ≤ number) → number ≡ 0
+      go keeps (yes h) = absurd (number-first .broken (λ z. omega arith) (keeps number h (read-numbered buf start end)))
+      go keeps (no h) = omega arith
+
+  pub refused-exactly : (n : ℕ) → 1 ≤ n → n ≤ 15
+      → (told (readPacket buf start end) .refusal .number ≡ n)
+      ↔ (((m : ℕ) → 1 ≤ m → m < n → Rule buf start end (window buf start end) m) × (¬ Rule buf start end (window buf start end) n))
+  refused-exactly n one most = (
+    λ is. (λ m least less. number-first .below m least (omega arith), λ here. number-first .broken (λ z. omega arith) (subst Kept (sym is) here)),
+    λ (before, broken). go before broken (decLe 1 number) (decLe n number) (decLe number n),
+  )
+    where
+      -- another number would be that of a rule which is kept
+      go : Below Kept n → ¬ Kept n → Dec (1 ≤ number) → Dec (n ≤ number) → Dec (number ≤ n) → number ≡ n
+      go before broken (no h) from to = absurd (broken (number-first .kept (omega arith) n one most))
+      go before broken (yes h) (no g) to = absurd (number-first .broken (λ z. omega arith) (before number h (omega arith)))
+      go before broken (yes h) (yes g) (no k) = absurd (broken (number-first .below n one (omega arith)))
+      go before broken (yes h) (yes g) (yes k) = omega arith

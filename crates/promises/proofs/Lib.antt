@@ -2,6 +2,8 @@ pub mod Writer
 pub mod Regions
 pub mod Written
 pub mod Again
+pub mod BodiesKept
+pub mod Refusing
 pub mod Keeping
 pub mod Building
 pub mod Reported

@@ -21,9 +21,10 @@ use Rattle.body.proofs.Bounds.{message-fits}
 use Rattle.body.proofs.Exactly.{body-of-blocks, body-messages}
 use Rattle.frame.specs.Header.{dataLength, flagsIn, kindIn, bodyAt, bodyIn}
 use Rattle.frame.specs.Rules.{messageRule}
-use Rattle.packet.specs.Read.{window, bodyChecked, readPacket, noRefusal}
+use Rattle.packet.specs.Read.{window, bodyChecked, readPacket, noRefusal, told}
 use Rattle.packet.specs.Messages.{messageCount, kthMessage, listAnswer, listPacket, listAfter, starts, lengths, messageAnswer, messagePacket, listTold, messageTold}
 use Rattle.packet.specs.declared.Packet.{Packet}
+use Rattle.packet.specs.declared.PacketRead.{PacketRead}
 use Rattle.packet.specs.declared.PacketRead.the-variants.{Accepted}
 use Rattle.packet.specs.declared.PacketList.{PacketList}
 use Rattle.packet.specs.declared.PacketList.the-variants.{Listed, Unlisted}
@@ -32,7 +33,7 @@ use Rattle.packet.proofs.Answers.{ahead}
 use Rattle.packet.proofs.Own.{accepted-at}
 use Rattle.promises.specs.Endings.{listedTold, givenTold}
 use Rattle.promises.specs.Reports.{messageFor, Reports}
-use Rattle.promises.proofs.Keeping.{carried-counted, accepted-keeps}
+use Rattle.promises.proofs.Keeping.{carried-counted, kept-messages, accepted-exactly}
 
 -- ---- what the calls say of an accepted packet with n messages
 
@@ -162,7 +163,8 @@ module _ (buf : List ℕ) (s e : ℕ) (p : Packet) (es : List Entry) (h : readPa
 pub messages-there : (buf : List ℕ) (s e : ℕ) (p : Packet) → Bytes buf → readPacket buf s e ≡ Accepted p → opens (kindIn (window buf s e)) ≡ true
     → (es : List Entry) × Reports buf s e es
 messages-there buf s e p raw h o =
-    let m = accepted-keeps buf s e p raw h .messages o in
+    let keeps = accepted-exactly buf raw s e .0 (ap (λ (x : PacketRead). told x .refusal .number) h) in
+    let m = kept-messages buf s e (window buf s e) (keeps 15 (omega arith) (omega arith)) o in
     (m .0, blocks-reported buf s e p (m .0) h (m .1))
 
 -- of any other type: none

@@ -2,9 +2,10 @@
 use mathlib.Core.Path.{_≡_}
 use mathlib.Core.List.{List, _∷_, _++_}
 use mathlib.Core.Bool.{true}
-use mathlib.Core.Logic.{_⊎_, _≢_}
+use mathlib.Core.Logic.{_↔_, _⊎_, _≢_}
 use Prim.Native.Nat.{ℕ, _≤_, _<_}
 use lib.ListN.{length, drop}
+use Rattle.units.specs.Units.{Bytes}
 use Rattle.body.specs.Times.{ruleOf}
 use Rattle.body.specs.Walk.{refused}
 use Rattle.body.specs.Answers.{checkBody, noMessage}
@@ -26,6 +27,7 @@ use Rattle.recording.specs.Reading.{readRecording}
 use Rattle.recording.specs.Handed.{HandsOut}
 use Rattle.promises.specs.Contents.{Contents, packetOf, Accepts, outputOf}
 use Rattle.promises.specs.Endings.{Ends, readTold, listedTold, givenTold, writtenTold}
+use Rattle.promises.specs.Keeps.{Rule}
 use Rattle.promises.specs.Building.{Building}
 use Rattle.promises.specs.Table.{table, writerTable}
 
@@ -42,6 +44,10 @@ pub record Document01 : Type 0 where
   -- "Tested from the top, save where a call's own order stands below; the first that applies is given, and none is given otherwise."
   pub read-table : (buf : List ℕ) (start end : ℕ) → first (table buf start end (window buf start end)) ≢ 0
       → told (readPacket buf start end) ≡ readTold (refused (first (table buf start end (window buf start end))) start 0) noPacket
+  -- the same in the words of the rules: n is given exactly where the rules above it are kept and its own is not
+  pub read-first : (buf : List ℕ) → Bytes buf → (start end n : ℕ) → 1 ≤ n → n ≤ 15
+      → (told (readPacket buf start end) .refusal .number ≡ n)
+      ↔ (((m : ℕ) → 1 ≤ m → m < n → Rule buf start end (window buf start end) m) × (¬ Rule buf start end (window buf start end) n))
   -- where none of 1 to 14 applies, 15 or none
   pub read-behind : (buf : List ℕ) (start end : ℕ) → first (table buf start end (window buf start end)) ≡ 0
       → (told (readPacket buf start end) .refusal .number ≡ 0) ⊎ (told (readPacket buf start end) .refusal .number ≡ 15)

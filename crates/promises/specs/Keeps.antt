@@ -8,9 +8,9 @@ use Prim.Native.Nat.{ℕ, _+_, _-_, _*_, _/_, _%_, _^_, _≤_, _<_}
 use lib.ListN.{length, take, drop}
 use Rattle.units.specs.Units.{field, sumUnits}
 use Rattle.body.specs.Walk.{opens}
-use Rattle.body.specs.Blocks.{Entry, BodyOf}
+use Rattle.body.specs.Blocks.{Entry}
 use Rattle.frame.specs.Header.{byte, channelIn, packetLength, dataLength, versionIn, flagsIn, kindIn, secondaryBit, absoluteBit, timeFormat, sumLength, bodyAt, bodyIn}
-use Rattle.frame.specs.Rules.{messageRule}
+use Rattle.promises.specs.Bodies.{BodyKept}
 
 -- defined types: 0x00-0x04, 0x09, 0x0A, 0x11, 0x12, 0x19, 0x1A, 0x21, 0x29, 0x30, 0x38, 0x40-0x44, 0x48-0x4A, 0x50, 0x58, 0x59, 0x60,
 -- 0x68, 0x69, 0x70-0x72, 0x78-0x7A. That is 35; all others are reserved
@@ -34,46 +34,51 @@ D w = dataLength w
 abbrev pub width : List ℕ → ℕ
 width w = sumLength (flagsIn w)
 
--- w: the window's bytes
-pub record Keeps (buf : List ℕ) (start end : ℕ) (w : List ℕ) : Type 0 where
+-- rule n of the table, of a packet at the start of a window; w: the window's bytes
+pub data Rule (buf : List ℕ) (start end : ℕ) (w : List ℕ) : ℕ → Type 0 where
   -- 1: a start and a filled end, with start ≤ end ≤ buffer length
-  pub ordered : start ≤ end
-  pub within : end ≤ length buf
+  within : start ≤ end → end ≤ length buf → Rule buf start end w 1
   -- 2: 24 bytes in the window
-  pub enough : 24 ≤ length w
+  enough : 24 ≤ length w → Rule buf start end w 2
   -- 3: the sync bytes are 25 EB in that order
-  pub synced : take 2 w ≡ 0x25 ∷ 0xEB ∷ []
+  synced : take 2 w ≡ 0x25 ∷ 0xEB ∷ [] → Rule buf start end w 3
   -- 4: the header sum is the sum of the eleven 16-bit words ahead of it, modulo 65,536
-  pub headerSum : field w 22 2 ≡ sumUnits 2 11 w % 65536
+  headerSum : field w 22 2 ≡ sumUnits 2 11 w % 65536 → Rule buf start end w 4
   -- 5: version is 0x01 to 0x09
-  pub version : (0x01 ≤ versionIn w) × (versionIn w ≤ 0x09)
+  version : (0x01 ≤ versionIn w) × (versionIn w ≤ 0x09) → Rule buf start end w 5
   -- 6: the type is a defined one
-  pub type : OneOf (kindIn w) definedTypes
+  type : OneOf (kindIn w) definedTypes → Rule buf start end w 6
   -- 7: time format 11 is reserved, refused even where bit 7 is 0; if bit 6 is 1, bit 7 must be 1
-  pub format : timeFormat (flagsIn w) ≢ 3
-  pub absolute : absoluteBit (flagsIn w) ≡ 1 → secondaryBit (flagsIn w) ≡ 1
+  flags : timeFormat (flagsIn w) ≢ 3 → (absoluteBit (flagsIn w) ≡ 1 → secondaryBit (flagsIn w) ≡ 1) → Rule buf start end w 7
   -- 8: channel 0 only with types 0x01 and 0x04
-  pub channel : channelIn w ≡ 0 → (kindIn w ≡ 0x01) ⊎ (kindIn w ≡ 0x04)
+  channel : (channelIn w ≡ 0 → (kindIn w ≡ 0x01) ⊎ (kindIn w ≡ 0x04)) → Rule buf start end w 8
   -- 9: P is a multiple of 4, at most 524,288, or 134,217,728 for type 0x01; D is at least 1; P = 24, plus 12 if bit 7 is set, plus D, plus
   -- filler of 0 to 3 bytes, plus the sum's width
-  pub fours : P w % 4 ≡ 0
-  pub most : (P w ≤ 524288) ⊎ ((kindIn w ≡ 0x01) × (P w ≤ 134217728))
-  pub some : 1 ≤ D w
-  pub parts : (filler : ℕ) × (filler ≤ 3) × (P w ≡ 24 + 12 * secondaryBit (flagsIn w) + D w + filler + width w)
+  lengths : P w % 4 ≡ 0
+      → ((P w ≤ 524288) ⊎ ((kindIn w ≡ 0x01) × (P w ≤ 134217728)))
+      → 1 ≤ D w
+      → ((filler : ℕ) × (filler ≤ 3) × (P w ≡ 24 + 12 * secondaryBit (flagsIn w) + D w + filler + width w))
+      → Rule buf start end w 9
   -- 10: P is within the window
-  pub whole : P w ≤ length w
+  whole : P w ≤ length w → Rule buf start end w 10
   -- 11: the secondary header's last 2 bytes are the sum of the five 16-bit words before it, modulo 65,536
-  pub secondarySum : secondaryBit (flagsIn w) ≡ 1 → field w 34 2 ≡ sumUnits 2 5 (drop 24 w) % 65536
+  secondarySum : (secondaryBit (flagsIn w) ≡ 1 → field w 34 2 ≡ sumUnits 2 5 (drop 24 w) % 65536) → Rule buf start end w 11
   -- 12: its 2 reserved bytes are zero; Chapter 4 time: the low 16 bits are zero; IEEE 1588: the low long word is below 1,000,000,000;
   -- extended counter: any
-  pub reserved : secondaryBit (flagsIn w) ≡ 1 → field w 32 2 ≡ 0
-  pub chapter4 : secondaryBit (flagsIn w) ≡ 1 → timeFormat (flagsIn w) ≡ 0 → field w 24 2 ≡ 0
-  pub ieee1588 : secondaryBit (flagsIn w) ≡ 1 → timeFormat (flagsIn w) ≡ 1 → field w 24 4 < 1000000000
+  secondary : (secondaryBit (flagsIn w) ≡ 1 → field w 32 2 ≡ 0)
+      → (secondaryBit (flagsIn w) ≡ 1 → timeFormat (flagsIn w) ≡ 0 → field w 24 2 ≡ 0)
+      → (secondaryBit (flagsIn w) ≡ 1 → timeFormat (flagsIn w) ≡ 1 → field w 24 4 < 1000000000)
+      → Rule buf start end w 12
   -- 13: the last bytes of the packet, if it has a sum, are that of body and filler in units of its own width, counted from the body's first
   -- byte, modulo 2 to that width
-  pub dataSum : 0 < width w
-      → field w (P w - width w) (width w) ≡ sumUnits (width w) ((P w - width w - bodyAt (flagsIn w)) / width w) (drop (bodyAt (flagsIn w)) w) % 256 ^ width w
+  dataSum : (0 < width w
+      → field w (P w - width w) (width w) ≡ sumUnits (width w) ((P w - width w - bodyAt (flagsIn w)) / width w) (drop (bodyAt (flagsIn w)) w) % 256 ^ width w)
+      → Rule buf start end w 13
   -- 14: filler bytes, from behind the body to the sum, are zero
-  pub filler : (i : ℕ) → bodyAt (flagsIn w) + D w ≤ i → i < P w - width w → byte w i ≡ 0
+  filler : ((i : ℕ) → bodyAt (flagsIn w) + D w ≤ i → i < P w - width w → byte w i ≡ 0) → Rule buf start end w 14
   -- 15: a body of a type that we open is its channel word and the blocks of some messages
-  pub messages : opens (kindIn w) ≡ true → (es : List Entry) × BodyOf (kindIn w) (messageRule (flagsIn w)) (bodyIn w) es
+  messages : ((kindIn w ≡ 0x30) ⊎ (kindIn w ≡ 0x50) → (es : List Entry) × BodyKept (kindIn w) (flagsIn w) (bodyIn w) es) → Rule buf start end w 15
+
+-- every rule is kept
+abbrev pub Keeps : List ℕ → ℕ → ℕ → List ℕ → Type 0
+Keeps buf start end w = (n : ℕ) → 1 ≤ n → n ≤ 15 → Rule buf start end w n

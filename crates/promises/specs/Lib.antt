@@ -1,6 +1,7 @@
 pub mod Calls
 pub mod Contents
 pub mod Endings
+pub mod Bodies
 pub mod Keeps
 pub mod Building
 pub mod Reports
