@@ -5,18 +5,17 @@ use Prim.Native.Nat.{ℕ, _+_, _≤_}
 use native.Mathlib.Omega.{arith}
 use lib.ListN.{length, take}
 use lib.Seq.{take-at}
+use borrow.Author.Tests.{ne-eqb}
 use Rattle.units.specs.Units.{Bytes, part}
 use Rattle.units.proofs.Parts.{length-part, part-add, field-add}
-use Rattle.frame.specs.Header.{fieldsIn}
+use Rattle.frame.specs.Header.{flagsIn, kindIn, bodyIn, fieldsIn}
 use Rattle.frame.proofs.Stages.{the-time, no-time}
 use Rattle.body.specs.Walk.{opens}
 use Rattle.packet.specs.Read.{window, packetIn, readPacket, Together, noRefusal, told}
 use Rattle.packet.specs.Write.{writePacket, outAfter, WriteTold, writeTold}
 use Rattle.packet.specs.declared.Packet.{Packet}
-use Rattle.packet.specs.declared.PacketRead.{PacketRead}
 use Rattle.packet.specs.declared.PacketWrite.{PacketWrite}
 use Rattle.packet.specs.declared.PacketWrite.the-variants.{Written}
-use Rattle.packet.proofs.Told.{read-told}
 use Rattle.packet.proofs.Own.{accepted-at, fits, together}
 use Rattle.promises.specs.Contents.{Contents, Typed, packetOf, outputOf, contentsOf}
 use Rattle.promises.specs.Endings.{readTold, writtenTold}
@@ -26,6 +25,7 @@ use Rattle.promises.proofs.Ends.{accepted-is}
 use Rattle.promises.proofs.Writer.{lengthIn, Right, written-says, right-written, right-accepts, accepts-right, length-of}
 use Rattle.promises.proofs.Written.{read-written}
 use Rattle.promises.proofs.Again.{read-again}
+use Rattle.promises.proofs.BodiesKept.{opens-exactly, body-kept}
 use Rattle.promises.proofs.Keeping.{accepted-exactly}
 use Rattle.promises.proofs.Reported.{messages-there, carried-none}
 
@@ -127,8 +127,15 @@ demand-2 =
           rw (accepted-at buf start end p (accepted-is buf start end p is) .packet) (packet-is (window buf start end) start);
       parts-there =
           λ buf start end p is. let t = together buf start end p (accepted-is buf start end p is) in (t, five-parts buf start p t);
-      messages-there = λ buf raw start end p is. messages-there buf start end p raw (accepted-is buf start end p is);
-      carried-none = λ buf start end p is. carried-none buf start end p (accepted-is buf start end p is);
+      messages-there =
+          λ buf raw start end p is kind.
+          let w = window buf start end in
+          let o = opens-exactly (kindIn w) .1 kind in
+          let (es, reports) = messages-there buf start end p raw (accepted-is buf start end p is) o in
+          (es, body-kept (kindIn w) (flagsIn w) (bodyIn w) es o .0 (reports .blocks), reports);
+      carried-none =
+          λ buf start end p is message uart.
+          carried-none buf start end p (accepted-is buf start end p is) (rw (ne-eqb _ 0x30 message, ne-eqb _ 0x50 uart));
       written-reads-back = reads-back;
       written-again = again;
     }

@@ -11,7 +11,7 @@ use native.Mathlib.Nat.{mod-one, mul-div-le}
 use lib.ListN.{length, take, drop, getD, length-take, take-append-drop, getD-replicate}
 use lib.Seq.{getD-take, getD-drop}
 use lib.Dec.{leb, eqb}
-use borrow.Author.Tests.{eqb-true, eqb-false, eq-eqb, ne-eqb, leb-true, le-leb, ltb-true, lt-ltb, not-true}
+use borrow.Author.Tests.{eqb-true, eqb-false, eq-eqb, ne-eqb, leb-true, le-leb, not-true}
 use Rattle.units.specs.Units.{Bytes, part, field, sumUnits, checksum, zeros}
 use Rattle.units.specs.Choice.{pick}
 use Rattle.units.proofs.Choices.{and-true, or-true}
@@ -185,8 +185,6 @@ absent w e =
     let h₁₁ = holds _ _ _ tt (sym (no-secondary w e)) in
     let h₁₂ = holds _ _ _ tt (h₁₁ .1) in
     (h₁₁ .0, h₁₂ .0)
-
-
 
 -- where there is one
 module _ (w : List ℕ) (there : secondaryBit (flagsIn w) ≡ 1) where

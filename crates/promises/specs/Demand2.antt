@@ -1,15 +1,14 @@
 -- Demand 2, sentence by sentence; proved in proofs/Demand2.antt (demand-2).
 use mathlib.Core.Path.{_≡_}
 use mathlib.Core.List.{List, _++_}
-use mathlib.Core.Bool.{true, false}
-use mathlib.Core.Logic.{_↔_}
+use mathlib.Core.Logic.{_↔_, _⊎_, _≢_}
 use Prim.Native.Nat.{ℕ, _+_, _≤_}
 use lib.ListN.{length, take}
 use Rattle.units.specs.Units.{Bytes, part}
-use Rattle.body.specs.Walk.{refused, opens}
+use Rattle.body.specs.Walk.{refused}
 use Rattle.body.specs.Answers.{noMessage}
 use Rattle.body.specs.Blocks.{Entry}
-use Rattle.frame.specs.Header.{kindIn}
+use Rattle.frame.specs.Header.{flagsIn, kindIn, bodyIn}
 use Rattle.packet.specs.Read.{window, readPacket, Together, noRefusal, told}
 use Rattle.packet.specs.Messages.{listPacket, messagePacket, listTold, messageTold}
 use Rattle.packet.specs.Write.{writePacket, writeTold}
@@ -17,6 +16,7 @@ use Rattle.packet.specs.declared.Part.{Part}
 use Rattle.packet.specs.declared.Packet.{Packet}
 use Rattle.promises.specs.Contents.{Contents, Typed, outputOf, contentsOf}
 use Rattle.promises.specs.Endings.{readTold, listedTold, givenTold, writtenTold}
+use Rattle.promises.specs.Bodies.{BodyKept}
 use Rattle.promises.specs.Keeps.{Keeps}
 use Rattle.promises.specs.Reports.{PacketThere, Reports}
 
@@ -41,10 +41,11 @@ pub record Demand2 : Type 0 where
       ≡ bytesIn buf (p .header) ++ (bytesIn buf (p .secondary) ++ (bytesIn buf (p .body) ++ (bytesIn buf (p .filler) ++ bytesIn buf (p .sum)))))
   -- the messages of a type that we open are the blocks of its body, all of them, each where it stands
   pub messages-there : (buf : List ℕ) → Bytes buf → (start end : ℕ) (p : Packet) → told (readPacket buf start end) ≡ readTold noRefusal p
-      → opens (kindIn (window buf start end)) ≡ true → (es : List Entry) × Reports buf start end es
+      → (kindIn (window buf start end) ≡ 0x30) ⊎ (kindIn (window buf start end) ≡ 0x50)
+      → (es : List Entry) × BodyKept (kindIn (window buf start end)) (flagsIn (window buf start end)) (bodyIn (window buf start end)) es × Reports buf start end es
   -- of any other type there are none
   pub carried-none : (buf : List ℕ) (start end : ℕ) (p : Packet) → told (readPacket buf start end) ≡ readTold noRefusal p
-      → opens (kindIn (window buf start end)) ≡ false
+      → kindIn (window buf start end) ≢ 0x30 → kindIn (window buf start end) ≢ 0x50
       → ((len₁ len₂ : ℕ) → listTold (listPacket buf start end len₁ len₂) ≡ listedTold noRefusal 0)
       × ((number : ℕ) → messageTold (messagePacket buf start end number) ≡ givenTold (refused 17 start 0) noMessage)
   -- "What the writer writes reads back as given": the n bytes that it wrote into any output, at any place of any buffer, whatever

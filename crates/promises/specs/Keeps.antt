@@ -2,12 +2,10 @@
 -- table of refusals. No test of the reader's is cited but in 15: that the reader's tests say the same is proved in proofs/Keeping.antt.
 use mathlib.Core.Path.{_≡_}
 use mathlib.Core.List.{List, [], _∷_}
-use mathlib.Core.Bool.{true}
 use mathlib.Core.Logic.{_⊎_, _≢_}
 use Prim.Native.Nat.{ℕ, _+_, _-_, _*_, _/_, _%_, _^_, _≤_, _<_}
 use lib.ListN.{length, take, drop}
 use Rattle.units.specs.Units.{field, sumUnits}
-use Rattle.body.specs.Walk.{opens}
 use Rattle.body.specs.Blocks.{Entry}
 use Rattle.frame.specs.Header.{byte, channelIn, packetLength, dataLength, versionIn, flagsIn, kindIn, secondaryBit, absoluteBit, timeFormat, sumLength, bodyAt, bodyIn}
 use Rattle.promises.specs.Bodies.{BodyKept}
