@@ -1,7 +1,7 @@
 -- What document 01 promises beside the demands holds. Assumes nothing.
 use mathlib.Core.Path.{_≡_, refl, ap, _∙_}
 use mathlib.Core.List.{List, _++_}
-use mathlib.Core.Logic.{_⊎_, inl, inr, _≢_}
+use mathlib.Core.Logic.{inl, inr, _≢_}
 use Prim.Native.Nat.{ℕ, _≤_, min}
 use native.Mathlib.Omega.{arith}
 use native.Mathlib.Nat.{zero-add}
@@ -9,12 +9,10 @@ use lib.ListN.{length, drop}
 use borrow.Author.Tests.{ne-eqb, lt-ltb, le-ltb}
 use Rattle.body.specs.Walk.{refused}
 use Rattle.body.specs.Answers.{noMessage}
-use Rattle.body.specs.declared.Checked.{Checked}
-use Rattle.body.specs.declared.Checked.the-variants.{Counted, Faulty}
 use Rattle.builder.proofs.ReadBack.{built-reads-back, built-closes}
-use Rattle.frame.specs.Table.{first, headLines, valueLines, wholeLines, secondaryLines, trailerLines, frameLines}
+use Rattle.frame.specs.Table.{first, valueLines}
 use Rattle.frame.specs.declared.Fields.{Fields}
-use Rattle.packet.specs.Read.{window, outerLines, outerRefusal, bodyChecked, bodyAnswer, readPacket, noPacket, told}
+use Rattle.packet.specs.Read.{window, readPacket, told}
 use Rattle.packet.specs.Messages.{messageCount, kthMessage, listAnswer, listPacket, messageAnswer, messagePacket, listTold, messageTold}
 use Rattle.packet.specs.Write.{writerLines, writerRefusal, fitted, writePacket, outAfter, writeTold}
 use Rattle.packet.specs.declared.PacketRead.{PacketRead}
@@ -25,34 +23,15 @@ use Rattle.packet.proofs.Told.{write-told, write-numbered}
 use Rattle.recording.specs.Reading.{reading}
 use Rattle.recording.proofs.HandedOut.{hands-out, hands-out-once}
 use Rattle.promises.specs.Contents.{Contents, packetOf, Accepts, outputOf}
-use Rattle.promises.specs.Endings.{Ends, readTold, listedTold, givenTold, writtenTold}
-use Rattle.promises.specs.Table.{table, writerTable}
+use Rattle.promises.specs.Endings.{Ends, listedTold, givenTold, writtenTold}
+use Rattle.promises.specs.Table.{writerTable}
 use Rattle.promises.specs.Document01.{WritesOrNot, Document01}
 use Rattle.promises.proofs.Ends.{above}
 use Rattle.promises.proofs.Keeping.{refused-exactly}
 use Rattle.promises.proofs.Building.{building}
 use Rattle.promises.proofs.Writer.{lengthIn, right-written, accepts-right, length-of}
 
--- ---- the tables
-
-outer-is : (buf : List ℕ) (start end : ℕ) → outerRefusal buf start end ≡ first (table buf start end (window buf start end))
-unfolding outerRefusal outerLines frameLines headLines valueLines wholeLines secondaryLines trailerLines table
-outer-is buf start end = refl
-
-tabled : (buf : List ℕ) (start end : ℕ) → first (table buf start end (window buf start end)) ≢ 0
-    → told (readPacket buf start end) ≡ readTold (refused (first (table buf start end (window buf start end))) start 0) noPacket
-unfolding readPacket
-tabled buf start end h = rw (outer-is buf start end, ne-eqb (first (table buf start end (window buf start end))) 0 h)
-
-behind-table : (buf : List ℕ) (start end : ℕ) → first (table buf start end (window buf start end)) ≡ 0
-    → (told (readPacket buf start end) .refusal .number ≡ 0) ⊎ (told (readPacket buf start end) .refusal .number ≡ 15)
-unfolding readPacket bodyAnswer
-behind-table buf start end z = rw (outer-is buf start end, z) (go (bodyChecked (window buf start end)))
-  where
-    go : (x : Checked)
-        → (told (bodyAnswer x (window buf start end) start) .refusal .number ≡ 0) ⊎ (told (bodyAnswer x (window buf start end) start) .refusal .number ≡ 15)
-    go (Counted n) = inl refl
-    go (Faulty f) = inr refl
+-- ---- the writer's table
 
 writer-is : (f : Fields) (d : ℕ) → writerRefusal f d ≡ first (writerTable f d)
 unfolding writerRefusal writerLines valueLines writerTable
@@ -121,9 +100,7 @@ written-there c a out room =
 pub document-01 : Document01
 document-01 =
     record {
-      read-table = tabled;
       read-first = refused-exactly;
-      read-behind = behind-table;
       list-as-read = list-as-read;
       message-as-read = message-as-read;
       recording-handed =

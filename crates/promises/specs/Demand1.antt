@@ -36,7 +36,7 @@ pub record ListKept (r : PacketList) (values : ℕ → ℕ) (old : List ℕ) : T
 
 pub record Demand1 : Type 0 where
   -- "A read names a start and a filled end in a buffer. For every input it ends with a packet or one refusal from the table, number
-  -- and place fixed." Fixed: no two outcomes satisfy what a call promises (proofs/Once.antt).
+  -- and place fixed." Fixed: no two outcomes satisfy what a call promises (proofs/Once.antt); which number: Document01.read-first.
 
   -- the reader: a packet, or one of 1 to 15, and its place
   pub read-ends : (buf : List ℕ) (start end : ℕ) → Ends 15 readTold noPacket (told (readPacket buf start end))

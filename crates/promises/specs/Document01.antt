@@ -2,7 +2,7 @@
 use mathlib.Core.Path.{_≡_}
 use mathlib.Core.List.{List, _∷_, _++_}
 use mathlib.Core.Bool.{true}
-use mathlib.Core.Logic.{_↔_, _⊎_, _≢_}
+use mathlib.Core.Logic.{_↔_, _≢_}
 use Prim.Native.Nat.{ℕ, _≤_, _<_}
 use lib.ListN.{length, drop}
 use Rattle.units.specs.Units.{Bytes}
@@ -19,17 +19,17 @@ use Rattle.builder.specs.declared.Draft.{Draft}
 use Rattle.frame.specs.Rules.{messageRule}
 use Rattle.frame.specs.Table.{first}
 use Rattle.frame.specs.declared.Fields.{Fields}
-use Rattle.packet.specs.Read.{window, readPacket, noRefusal, noPacket, told}
+use Rattle.packet.specs.Read.{window, readPacket, noRefusal, told}
 use Rattle.packet.specs.Messages.{listPacket, messagePacket, listTold, messageTold}
 use Rattle.packet.specs.Write.{writePacket, writeTold}
 use Rattle.packet.specs.declared.Packet.{Packet}
 use Rattle.recording.specs.Reading.{readRecording}
 use Rattle.recording.specs.Handed.{HandsOut}
 use Rattle.promises.specs.Contents.{Contents, packetOf, Accepts, outputOf}
-use Rattle.promises.specs.Endings.{Ends, readTold, listedTold, givenTold, writtenTold}
+use Rattle.promises.specs.Endings.{Ends, listedTold, givenTold, writtenTold}
 use Rattle.promises.specs.Keeps.{Rule}
 use Rattle.promises.specs.Building.{Building}
-use Rattle.promises.specs.Table.{table, writerTable}
+use Rattle.promises.specs.Table.{writerTable}
 
 -- the writer's answer where 17, 5 to 9 and 12 have nothing against it: 15 by the body, then 16 with the packet's length as room
 pub record WritesOrNot (c : Contents) (room : ℕ) : Type 0 where
@@ -42,15 +42,10 @@ pub record WritesOrNot (c : Contents) (room : ℕ) : Type 0 where
 
 pub record Document01 : Type 0 where
   -- "Tested from the top, save where a call's own order stands below; the first that applies is given, and none is given otherwise."
-  pub read-table : (buf : List ℕ) (start end : ℕ) → first (table buf start end (window buf start end)) ≢ 0
-      → told (readPacket buf start end) ≡ readTold (refused (first (table buf start end (window buf start end))) start 0) noPacket
-  -- the same in the words of the rules: n is given exactly where the rules above it are kept and its own is not
+  -- n is given exactly where the rules above it are kept and its own is not; 0, where all are: Demand2.accepted-exactly
   pub read-first : (buf : List ℕ) → Bytes buf → (start end n : ℕ) → 1 ≤ n → n ≤ 15
       → (told (readPacket buf start end) .refusal .number ≡ n)
       ↔ (((m : ℕ) → 1 ≤ m → m < n → Rule buf start end (window buf start end) m) × (¬ Rule buf start end (window buf start end) n))
-  -- where none of 1 to 14 applies, 15 or none
-  pub read-behind : (buf : List ℕ) (start end : ℕ) → first (table buf start end (window buf start end)) ≡ 0
-      → (told (readPacket buf start end) .refusal .number ≡ 0) ⊎ (told (readPacket buf start end) .refusal .number ≡ 15)
   -- Lister: "After the reader's tests", and the second call too: a refusal of the reader is theirs, number, place and room
   pub list-as-read : (buf : List ℕ) (start end len₁ len₂ : ℕ) → told (readPacket buf start end) .refusal .number ≢ 0
       → listTold (listPacket buf start end len₁ len₂) ≡ listedTold (told (readPacket buf start end) .refusal) 0

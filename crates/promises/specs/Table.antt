@@ -1,33 +1,13 @@
--- Document 01's table ("What each call says no to"), written out: the reader's 1 to 14, and the writer's own order.
+-- The writer's own order of document 01's table ("Writer"): first 17, then 5 to 9 and 12 by the reader's rules.
 use mathlib.Core.List.{List, [], _∷_}
 use Prim.Native.Nat.{ℕ}
-use Rattle.frame.specs.Header.{channelIn, packetLength, dataLength, versionIn, flagsIn, kindIn, lengthFor}
-use Rattle.frame.specs.Rules.{versionOk, typeOk, flagsOk, channelOk, lengthsOk, secondaryTimeOk, enough, synced, headerSummed, whole, secondarySummed, secondaryOk, dataSummed, fillerOk}
+use Rattle.frame.specs.Header.{lengthFor}
+use Rattle.frame.specs.Rules.{versionOk, typeOk, flagsOk, channelOk, lengthsOk, secondaryTimeOk}
 use Rattle.frame.specs.Table.{Line, line}
 use Rattle.frame.specs.declared.Fields.{Fields}
-use Rattle.packet.specs.Read.{inside}
 use Rattle.packet.specs.Write.{inRange}
 
--- of a window, whose bytes are w
-unfoldable pub table : List ℕ → ℕ → ℕ → List ℕ → List Line
-table buf start end w =
-    line 1 (inside buf start end)
-    ∷ line 2 (enough w)
-    ∷ line 3 (synced w)
-    ∷ line 4 (headerSummed w)
-    ∷ line 5 (versionOk (versionIn w))
-    ∷ line 6 (typeOk (kindIn w))
-    ∷ line 7 (flagsOk (flagsIn w))
-    ∷ line 8 (channelOk (channelIn w) (kindIn w))
-    ∷ line 9 (lengthsOk (kindIn w) (flagsIn w) (packetLength w) (dataLength w))
-    ∷ line 10 (whole w)
-    ∷ line 11 (secondarySummed w)
-    ∷ line 12 (secondaryOk w)
-    ∷ line 13 (dataSummed w)
-    ∷ line 14 (fillerOk w)
-    ∷ []
-
--- of fields and a body of d bytes
+-- of fields and a body of d bytes; each line is a refusal's number, and whether its rule holds
 unfoldable pub writerTable : Fields → ℕ → List Line
 writerTable f d =
     line 17 (inRange f)
