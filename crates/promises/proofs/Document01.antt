@@ -107,6 +107,7 @@ document-01 =
           λ buf start end. (reading buf start end .packets, hands-out buf start end, λ qs h. hands-out-once buf start end _ qs h .1);
       builder-answers = building;
       built-reads-back = λ buf d es rule b. built-reads-back rule b;
+      block-added = λ time upper bytes. refl;
       built-closes = λ buf d e es b. built-closes b;
       write-ends = write-ends;
       write-table = writer-tabled;

@@ -3,7 +3,7 @@
 use mathlib.Core.Path.{_≡_, refl, ap}
 use mathlib.Core.List.{List, [], _∷_}
 use mathlib.Core.Logic.{_≢_}
-use Prim.Native.Nat.{ℕ, _^_, _<_}
+use Prim.Native.Nat.{ℕ, _+_, _*_, _^_, _<_}
 use native.Mathlib.Omega.{arith}
 use lib.ListN.{getD, replicate}
 use lib.Dec.{lit<, lit≤}
@@ -13,7 +13,7 @@ use Rattle.builder.specs.Run.{Built, fresh, opened, added, closedBody}
 use Rattle.body.specs.Walk.{refused}
 use Rattle.body.specs.Times.{timeOk, ruleOf}
 use Rattle.body.specs.Walk.{messageShape, uartShape, openBody, stampLength, headAt, judge, blockAt, spot, stopAt, ending, walkFrom, walk}
-use Rattle.body.specs.Answers.{checkBody}
+use Rattle.body.specs.Answers.{checkBody, messageOf, messageIn}
 use Rattle.body.specs.Blocks.{blockBytes}
 use Rattle.frame.specs.Header.{fieldsIn}
 use Rattle.frame.specs.Rules.{limit, messageRule}
@@ -23,8 +23,10 @@ use Rattle.packet.specs.Read.{noRefusal, outerLines, outerRefusal, packetIn, bo
 use Rattle.packet.specs.Write.{writerLines, writerRefusal, fitted, writePacket, writeTold}
 use Rattle.recording.specs.Reading.{readFrom, reading, readRecording}
 use Rattle.promises.specs.Contents.{packetOf, Accepts, AllAccepted, nil, cons, written}
+use Rattle.packet.specs.Messages.{messageCount, kthMessage, messageAnswer, messagePacket, messageTold}
+use Rattle.promises.specs.Endings.{givenTold}
 use Rattle.promises.specs.Altered.{secondary, trailer, Pieces, none, intact, altered}
-use Rattle.promises.specs.Cases.{L, lContents, ieee1588, second, carriedByte, three, threeIn, twoAltered, block, opened as Cases·opened, bufferOpened, added as Cases·added, bufferAdded}
+use Rattle.promises.specs.Cases.{L, lContents, ieee1588, second, carriedByte, three, threeIn, twoAltered, stampedContents, block, opened as Cases·opened, bufferOpened, added as Cases·added, bufferAdded}
 use Rattle.promises.proofs.Alterations.{change-named}
 
 -- ---- L
@@ -96,6 +98,13 @@ two-altered =
 pub two-altered-read : readRecording twoAltered 0 120 ≡ record { accepted = 1; reached = 40; refusal = refused 11 40 0 }
 unfolding num bytesOf sumUnits summed zeros timeOk ruleOf messageShape uartShape openBody stampLength headAt judge blockAt spot stopAt ending walkFrom walk checkBody fieldsIn limit messageRule first headLines valueLines wholeLines secondaryLines trailerLines frameLines headWords headBytes secondaryWords secondaryBytes bodyAndFillerBytes dataBytes packetBytes outerLines outerRefusal packetIn bodyChecked bodyAnswer readPacket lContents carriedByte twoAltered readFrom reading readRecording
 two-altered-read = refl
+
+-- ---- a message with its time stamp: behind header, secondary header, channel word, stamp and ID word
+
+pub stamped-message : messageTold (messagePacket (packetOf stampedContents) 0 56 0)
+    ≡ givenTold noRefusal (record { time = 3 * 2 ^ 16; id = 5 * 2 ^ 16 + 3; start = 52; length = 3 })
+unfolding num bytesOf sumUnits summed zeros timeOk ruleOf messageShape uartShape openBody stampLength headAt judge blockAt spot stopAt ending walkFrom walk checkBody fieldsIn limit messageRule first headLines valueLines wholeLines secondaryLines trailerLines frameLines headWords headBytes secondaryWords secondaryBytes bodyAndFillerBytes dataBytes packetBytes outerLines outerRefusal packetIn bodyChecked bodyAnswer readPacket messagePacket messageAnswer messageCount kthMessage messageIn messageOf stampedContents
+stamped-message = refl
 
 -- ---- L's body is built
 

@@ -35,7 +35,7 @@ use Rattle.frame.proofs.Frames.{lengths-say}
 use Rattle.packet.specs.Read.{inside, window, outerLines, bodyChecked, readPacket, told}
 use Rattle.packet.proofs.Told.{read-numbered}
 use Rattle.promises.proofs.BodiesKept.{opens-exactly, body-kept, time-says, time-made}
-use Rattle.promises.specs.Keeps.{definedTypes, OneOf, P, D, width, Rule, within, enough, synced, headerSum, version, type, flags, channel, lengths, whole, secondarySum, secondary, dataSum, filler, messages, Keeps}
+use Rattle.promises.specs.Keeps.{definedTypes, OneOf, P, D, width, Rule, within, enough, synced, headerSum, version, defined, flagged, channel, lengths, whole, secondarySum, secondary, dataSum, filler, messages, Keeps}
 use Rattle.promises.proofs.Again.{field-below, byte-below}
 use Rattle.promises.proofs.Refusing.{Below, FirstBroken, tests, all-tested, counted, counted-says, number-is}
 
@@ -332,10 +332,10 @@ module _ (buf : List ℕ) (s e : ℕ) (w : List ℕ) where
   passes₅ (version h) = version-exactly (versionIn w) .1 h
 
   passes₆ : Rule buf s e w 6 → Rules.typeOk (kindIn w) ≡ true
-  passes₆ (type h) = type-made (kindIn w) h
+  passes₆ (defined h) = type-made (kindIn w) h
 
   passes₇ : Rule buf s e w 7 → Rules.flagsOk (flagsIn w) ≡ true
-  passes₇ (flags format absolute) = flags-exactly (flagsIn w) .1 (format, absolute)
+  passes₇ (flagged format absolute) = flags-exactly (flagsIn w) .1 (format, absolute)
 
   passes₈ : Rule buf s e w 8 → Rules.channelOk (channelIn w) (kindIn w) ≡ true
   passes₈ (channel h) = channel-exactly (channelIn w) (kindIn w) .1 h
@@ -381,7 +381,7 @@ module _ (buf : List ℕ) (s e : ℕ) (w : List ℕ) (raw : Bytes w) where
   says₁ t = let i = and-true (leb s e) (leb e (length buf)) t in within (leb-true s e (i .0)) (leb-true e (length buf) (i .1))
 
   says₇ : Rules.flagsOk (flagsIn w) ≡ true → Holds 7
-  says₇ t = let f = flags-exactly (flagsIn w) .0 t in flags (f .0) (f .1)
+  says₇ t = let f = flags-exactly (flagsIn w) .0 t in flagged (f .0) (f .1)
 
   says₉ : Rules.lengthsOk (kindIn w) (flagsIn w) (P w) (D w) ≡ true → Holds 9
   says₉ t =
@@ -431,7 +431,7 @@ module _ (buf : List ℕ) (s e : ℕ) (w : List ℕ) (raw : Bytes w) where
       tests Holds 15 3 _ _ (omega arith) (λ t. synced (sync-says w (leb-true 24 (length w) t₂) t)) (passes₃ buf s e w) r₂ λ _ r₃.
       tests Holds 15 4 _ _ (omega arith) (λ t. headerSum (sym (summed-says 2 11 w t))) (passes₄ buf s e w) r₃ λ _ r₄.
       tests Holds 15 5 _ _ (omega arith) (λ t. version (version-exactly (versionIn w) .0 t)) (passes₅ buf s e w) r₄ λ _ r₅.
-      tests Holds 15 6 _ _ (omega arith) (λ t. type (type-says (kindIn w) (byte-below w 15 raw) t)) (passes₆ buf s e w) r₅ λ _ r₆.
+      tests Holds 15 6 _ _ (omega arith) (λ t. defined (type-says (kindIn w) (byte-below w 15 raw) t)) (passes₆ buf s e w) r₅ λ _ r₆.
       tests Holds 15 7 _ _ (omega arith) says₇ (passes₇ buf s e w) r₆ λ _ r₇.
       tests Holds 15 8 _ _ (omega arith) (λ t. channel (channel-exactly (channelIn w) (kindIn w) .0 t)) (passes₈ buf s e w) r₇ λ _ r₈.
       tests Holds 15 9 _ _ (omega arith) says₉ (passes₉ buf s e w) r₈ λ t₉ r₉.

@@ -2,14 +2,24 @@
 use mathlib.Core.Path.{_≡_}
 use mathlib.Core.List.{List, [], _∷_, _++_}
 use mathlib.Core.Logic.{_⊎_, _≢_}
-use Prim.Native.Nat.{ℕ, suc, _+_, _*_, _≤_, _<_}
+use Prim.Native.Nat.{ℕ, suc, _+_, _*_, _/_, _%_, _≤_, _<_}
 use lib.ListN.{length}
-use Rattle.units.specs.Units.{Bytes}
-use Rattle.frame.specs.Header.{byte, sumLength, secondaryLength, bodyAt}
+use Rattle.units.specs.Units.{Bytes, sumWidth}
+use Rattle.frame.specs.Header.{byte}
 use Rattle.promises.specs.Contents.{Contents, packetOf, Accepts, AllAccepted, written}
 
 abbrev pub flagsOf : Contents → ℕ
 flagsOf c = c .fields .flags
+
+-- the length of its secondary header, where its body begins, and its data sum's width in bytes, by the flags (document 01, "Primary header")
+abbrev pub secondarySize : Contents → ℕ
+secondarySize c = 12 * (flagsOf c / 128 % 2)
+
+abbrev pub bodyPlace : Contents → ℕ
+bodyPlace c = 24 + secondarySize c
+
+abbrev pub sumSize : Contents → ℕ
+sumSize c = sumWidth (flagsOf c % 4)
 
 -- the units that the demand names in the packet of c: the refusal that each is to give, its place and its width
 pub data UnitOf (c : Contents) : ℕ → ℕ → ℕ → Type 0 where
@@ -18,10 +28,10 @@ pub data UnitOf (c : Contents) : ℕ → ℕ → ℕ → Type 0 where
   -- another 16-bit word of its primary header of 24 bytes, the sum too
   primary : (j : ℕ) → 0 < j → 2 * j + 2 ≤ 24 → UnitOf c 4 (2 * j) 2
   -- one 16-bit word of its secondary header, if it has one, the sum too
-  secondary : (j : ℕ) → 2 * j + 2 ≤ secondaryLength (flagsOf c) → UnitOf c 11 (24 + 2 * j) 2
+  secondary : (j : ℕ) → 2 * j + 2 ≤ secondarySize c → UnitOf c 11 (24 + 2 * j) 2
   -- if it carries a data sum, one aligned unit of that sum's width in body, filler or sum, counted from the body's first byte
-  trailer : (j : ℕ) → 0 < sumLength (flagsOf c) → bodyAt (flagsOf c) + sumLength (flagsOf c) * j + sumLength (flagsOf c) ≤ length (packetOf c)
-      → UnitOf c 13 (bodyAt (flagsOf c) + sumLength (flagsOf c) * j) (sumLength (flagsOf c))
+  trailer : (j : ℕ) → 0 < sumSize c → bodyPlace c + sumSize c * j + sumSize c ≤ length (packetOf c)
+      → UnitOf c 13 (bodyPlace c + sumSize c * j) (sumSize c)
 
 -- ys is xs with some of the n bytes at `at` altered, and no other
 pub record AlteredAt (at n : ℕ) (xs ys : List ℕ) : Type 0 where

@@ -8,14 +8,13 @@ use Prim.Native.Nat.{ℕ, _/_, _%_, _^_, _≤_, _<_}
 use lib.ListN.{length, take}
 use Rattle.units.specs.Units.{field}
 use Rattle.body.specs.Blocks.{Entry, blocksBytes}
-use Rattle.frame.specs.Header.{absoluteBit, timeFormat}
 
--- a message's time: flag bit 6 clear means a value below 2^48; set means the secondary time rule of the same format: Chapter 4, the low 16
+-- a message's time, by flag bit 6 and the time format (bits 3-2): bit 6 clear means a value below 2^48; set means the secondary time rule of the same format: Chapter 4, the low 16
 -- bits are zero; IEEE 1588, the low long word is below 1,000,000,000; extended counter, any
 pub record TimeInForm (flags time : ℕ) : Type 0 where
-  pub counter : absoluteBit flags ≡ 0 → time < 2 ^ 48
-  pub chapter4 : absoluteBit flags ≡ 1 → timeFormat flags ≡ 0 → time % 2 ^ 16 ≡ 0
-  pub ieee1588 : absoluteBit flags ≡ 1 → timeFormat flags ≡ 1 → time % 2 ^ 32 < 1000000000
+  pub counter : flags / 64 % 2 ≡ 0 → time < 2 ^ 48
+  pub chapter4 : flags / 64 % 2 ≡ 1 → flags / 4 % 4 ≡ 0 → time % 2 ^ 16 ≡ 0
+  pub ieee1588 : flags / 64 % 2 ≡ 1 → flags / 4 % 4 ≡ 1 → time % 2 ^ 32 < 1000000000
 
 -- the channel word of a 0x30 body with n blocks: bits 31-18 are zero. Type (bits 17-16) 00: the counter (bits 15-0) is the number of blocks.
 -- Type 01: one block, counter 1. Types 10 and 11: one block, counter at least 2

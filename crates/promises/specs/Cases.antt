@@ -128,6 +128,21 @@ twoAltered =
     ++ (splice (packetOf carriedByte) 24 (0xAA ∷ 0x01 ∷ 0x00 ∷ 0x00 ∷ [])
     ++ []))
 
+-- ---- a packet of type 0x30 with a secondary header (bit 7), absolute message times (bit 6) and Chapter 4 times: one block of 3 bytes
+
+unfoldable pub stampedContents : Contents
+stampedContents =
+    record {
+      fields = record { channel = 2; version = 1; sequence = 9; flags = 0xC0; kind = 0x30; rtc = 5; time = 7 * 2 ^ 16 };
+      body =
+          -- channel word: counter 1
+          0x01 ∷ 0x00 ∷ 0x00 ∷ 0x00
+          -- time 3 * 2^16, ID word: upper half 5, n = 3
+          ∷ 0x00 ∷ 0x00 ∷ 0x03 ∷ 0x00 ∷ 0x00 ∷ 0x00 ∷ 0x00 ∷ 0x00 ∷ 0x03 ∷ 0x00 ∷ 0x05 ∷ 0x00
+          -- "ABC" and a pad byte
+          ∷ 0x41 ∷ 0x42 ∷ 0x43 ∷ 0x00 ∷ [];
+    }
+
 -- ---- L's body, built in a buffer of 12 bytes: 0x50 opened without a time rule, and the block "ABC" added
 
 abbrev pub block : List ℕ

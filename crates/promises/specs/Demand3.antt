@@ -6,10 +6,9 @@ use Prim.Native.Nat.{ℕ, suc, _+_, _≤_, _<_}
 use lib.ListN.{length}
 use Rattle.units.specs.Units.{Bytes, splice}
 use Rattle.body.specs.Walk.{refused}
-use Rattle.frame.specs.Header.{sumLength, bodyAt}
 use Rattle.packet.specs.Read.{window, noRefusal}
 use Rattle.promises.specs.Contents.{Contents, Typed, packetOf, Accepts, AllAccepted, written}
-use Rattle.promises.specs.Altered.{flagsOf, UnitOf, Altered, Pieces, FirstAltered}
+use Rattle.promises.specs.Altered.{bodyPlace, sumSize, UnitOf, Altered, Pieces, FirstAltered}
 use Rattle.promises.specs.ReadsAs.{ReadsAs}
 
 pub record Demand3 : Type 0 where
@@ -44,5 +43,5 @@ pub record Demand3 : Type 0 where
   pub every-change-named : (c : Contents) → Typed c → (n at width : ℕ) → UnitOf c n at width → (new : List ℕ) → length new ≡ width → Bytes new
       → splice (packetOf c) at new ≢ packetOf c → Altered c n (splice (packetOf c) at new)
   -- and each byte of both headers, and of body, filler and sum where a data sum is carried, lies in one of the units.
-  pub every-byte-named : (c : Contents) (i : ℕ) → i < length (packetOf c) → (i < bodyAt (flagsOf c)) ⊎ (0 < sumLength (flagsOf c))
+  pub every-byte-named : (c : Contents) (i : ℕ) → i < length (packetOf c) → (i < bodyPlace c) ⊎ (0 < sumSize c)
       → (n : ℕ) × (at : ℕ) × (width : ℕ) × UnitOf c n at width × (at ≤ i) × (i < at + width)

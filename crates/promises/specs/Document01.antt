@@ -3,7 +3,7 @@ use mathlib.Core.Path.{_≡_}
 use mathlib.Core.List.{List, _∷_, _++_}
 use mathlib.Core.Bool.{true}
 use mathlib.Core.Logic.{_↔_, _≢_}
-use Prim.Native.Nat.{ℕ, _≤_, _<_}
+use Prim.Native.Nat.{ℕ, _+_, _*_, _^_, _≤_, _<_}
 use lib.ListN.{length, drop}
 use Rattle.units.specs.Units.{Bytes}
 use Rattle.body.specs.Times.{ruleOf}
@@ -13,7 +13,7 @@ use Rattle.body.specs.Blocks.{Entry, entriesIn}
 use Rattle.body.specs.declared.Refusal.{Refusal}
 use Rattle.body.specs.declared.TimeRule.{TimeRule}
 use Rattle.body.specs.declared.Checked.the-variants.{Counted, Faulty}
-use Rattle.builder.specs.Build.{stamped, closeStep, told as Builder·told}
+use Rattle.builder.specs.Build.{stamped, entryOf, closeStep, told as Builder·told}
 use Rattle.builder.specs.Run.{Built, closedBody}
 use Rattle.builder.specs.declared.Draft.{Draft}
 use Rattle.frame.specs.Rules.{messageRule}
@@ -62,6 +62,8 @@ pub record Document01 : Type 0 where
   pub built-reads-back : (buf : List ℕ) (d : Draft) (es : List Entry) (rule : TimeRule) → Built buf d es → Builder·told (closeStep d (length buf)) .number ≡ 0
       → (stamped (d .rule) ≡ true → rule ≡ ruleOf (d .rule))
       → (checkBody (d .kind) rule (closedBody buf d) ≡ Counted (length es)) × (entriesIn (d .kind) rule (closedBody buf d) (length es) ≡ es)
+  -- a block added is the time, the ID word made of its upper half and n, and the bytes, as given
+  pub block-added : (time upper : ℕ) (bytes : List ℕ) → entryOf time upper bytes ≡ record { time = time; id = upper * 2 ^ 16 + length bytes; bytes = bytes }
   -- once a block is added, closing is not refused
   pub built-closes : (buf : List ℕ) (d : Draft) (e : Entry) (es : List Entry) → Built buf d (e ∷ es) → Builder·told (closeStep d (length buf)) .number ≡ 0
   -- Writer: a length, or one refusal of the table's; "First 17 (..), then 5 to 9, 12 and 15 by the reader's rules, then 16."

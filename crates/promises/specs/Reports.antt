@@ -2,14 +2,14 @@
 use mathlib.Core.Path.{_≡_}
 use mathlib.Core.List.{List}
 use mathlib.Core.Bool.{Bool}
-use Prim.Native.Nat.{ℕ, _+_, _-_, _*_, _^_, _≤_, _<_, min}
+use Prim.Native.Nat.{ℕ, _+_, _-_, _*_, _/_, _%_, _^_, _≤_, _<_, min}
 use lib.ListN.{length, take, getD}
-use Rattle.units.specs.Units.{part, field}
+use Rattle.units.specs.Units.{part, field, sumWidth}
 use Rattle.body.specs.Walk.{refused}
 use Rattle.body.specs.Answers.{noMessage}
 use Rattle.body.specs.Blocks.{Entry, noEntry, blocksBytes, messageOn, BodyOf}
 use Rattle.body.specs.declared.Message.{Message}
-use Rattle.frame.specs.Header.{byte, secondaryBit, sumLength, flagsIn, kindIn, bodyAt, bodyIn}
+use Rattle.frame.specs.Header.{byte, flagsIn, kindIn, bodyAt, bodyIn}
 use Rattle.frame.specs.Rules.{messageRule}
 use Rattle.packet.specs.Read.{window, partAt, noRefusal}
 use Rattle.packet.specs.declared.Packet.{Packet}
@@ -29,17 +29,17 @@ pub record PacketThere (w : List ℕ) (at : ℕ) (p : Packet) : Type 0 where
   pub rtc : p .fields .rtc ≡ field w 16 6
   pub headsum : p .headsum ≡ field w 22 2
   -- low long word, high long word; 0 if absent
-  pub time : secondaryBit (byte w 14) ≡ 1 → p .fields .time ≡ field w 24 4 + 2 ^ 32 * field w 28 4
-  pub no-time : secondaryBit (byte w 14) ≡ 0 → p .fields .time ≡ 0
+  pub time : byte w 14 / 128 % 2 ≡ 1 → p .fields .time ≡ field w 24 4 + 2 ^ 32 * field w 28 4
+  pub no-time : byte w 14 / 128 % 2 ≡ 0 → p .fields .time ≡ 0
   -- the last bytes of the packet, 0 if absent
-  pub datasum : p .datasum ≡ field w (field w 4 4 - sumLength (byte w 14)) (sumLength (byte w 14))
+  pub datasum : p .datasum ≡ field w (field w 4 4 - sumWidth (byte w 14 % 4)) (sumWidth (byte w 14 % 4))
   pub header : p .header ≡ partAt at 24
-  pub secondary : p .secondary ≡ partAt (at + 24) (12 * secondaryBit (byte w 14))
-  pub body : p .body ≡ partAt (at + (24 + 12 * secondaryBit (byte w 14))) (field w 8 4)
+  pub secondary : p .secondary ≡ partAt (at + 24) (12 * (byte w 14 / 128 % 2))
+  pub body : p .body ≡ partAt (at + (24 + 12 * (byte w 14 / 128 % 2))) (field w 8 4)
   pub filler : p .filler
-      ≡ partAt (at + (24 + 12 * secondaryBit (byte w 14) + field w 8 4))
-      (field w 4 4 - sumLength (byte w 14) - (24 + 12 * secondaryBit (byte w 14) + field w 8 4))
-  pub sum : p .sum ≡ partAt (at + (field w 4 4 - sumLength (byte w 14))) (sumLength (byte w 14))
+      ≡ partAt (at + (24 + 12 * (byte w 14 / 128 % 2) + field w 8 4))
+      (field w 4 4 - sumWidth (byte w 14 % 4) - (24 + 12 * (byte w 14 / 128 % 2) + field w 8 4))
+  pub sum : p .sum ≡ partAt (at + (field w 4 4 - sumWidth (byte w 14 % 4))) (sumWidth (byte w 14 % 4))
 
 -- the k-th of some blocks as a message, its start counted from the packet's first byte: behind the channel word and the blocks before it
 abbrev pub messageFor : ℕ → Bool → List Entry → ℕ → Message
