@@ -1,5 +1,5 @@
 -- The rules of document 01, one by one and in its words, that a packet at the start of a window keeps (demand 2). Numbers are those of its
--- table of refusals. No test of the reader's is cited but in 15: that the reader's tests say the same is proved in proofs/Keeping.antt.
+-- table of refusals. No test of the reader's is cited: that the reader's tests say the same is proved in proofs/Keeping.antt.
 use mathlib.Core.Path.{_≡_}
 use mathlib.Core.List.{List, [], _∷_}
 use mathlib.Core.Logic.{_⊎_, _≢_}
