@@ -265,3 +265,9 @@ body-made kind flags bs es (inr e) k =
 pub body-kept : (kind flags : ℕ) (bs : List ℕ) (es : List Entry) → opens kind ≡ true
     → BodyOf kind (messageRule flags) bs es ↔ BodyKept kind flags bs es
 body-kept kind flags bs es o = (body-says kind flags bs es, body-made kind flags bs es (opens-exactly kind .0 o))
+
+-- with time stamps, or without, in both
+pub kept-stamped : (kind flags : ℕ) (bs : List ℕ) (es : List Entry) (o : opens kind ≡ true) (b : BodyOf kind (messageRule flags) bs es)
+    → body-kept kind flags bs es o .0 b .stamped ≡ b .shape .stamped
+unfolding body-kept body-says
+kept-stamped kind flags bs es o b = refl

@@ -1,5 +1,6 @@
 -- Demand 2 holds. Assumes nothing.
-use mathlib.Core.Path.{_≡_, refl, sym, ap, _∙_}
+use mathlib.Core.Path.{_≡_, refl, sym, ap, subst, _∙_}
+use mathlib.Core.Bool.{Bool}
 use mathlib.Core.List.{List, _++_}
 use Prim.Native.Nat.{ℕ, _+_, _≤_}
 use native.Mathlib.Omega.{arith}
@@ -19,13 +20,13 @@ use Rattle.packet.specs.declared.PacketWrite.the-variants.{Written}
 use Rattle.packet.proofs.Own.{accepted-at, fits, together}
 use Rattle.promises.specs.Contents.{Contents, Typed, packetOf, outputOf, contentsOf}
 use Rattle.promises.specs.Endings.{readTold, writtenTold}
-use Rattle.promises.specs.Reports.{PacketThere}
+use Rattle.promises.specs.Reports.{PacketThere, Reports}
 use Rattle.promises.specs.Demand2.{bytesIn, Demand2}
 use Rattle.promises.proofs.Ends.{accepted-is}
 use Rattle.promises.proofs.Writer.{lengthIn, Right, written-says, right-written, right-accepts, accepts-right, length-of}
 use Rattle.promises.proofs.Written.{read-written}
 use Rattle.promises.proofs.Again.{read-again}
-use Rattle.promises.proofs.BodiesKept.{opens-exactly, body-kept}
+use Rattle.promises.proofs.BodiesKept.{opens-exactly, body-kept, kept-stamped}
 use Rattle.promises.proofs.Keeping.{accepted-exactly}
 use Rattle.promises.proofs.Reported.{messages-there, carried-none}
 
@@ -131,8 +132,9 @@ demand-2 =
           λ buf raw start end p is kind.
           let w = window buf start end in
           let o = opens-exactly (kindIn w) .1 kind in
-          let (es, reports) = messages-there buf start end p raw (accepted-is buf start end p is) o in
-          (es, body-kept (kindIn w) (flagsIn w) (bodyIn w) es o .0 (reports .blocks), reports);
+          let (es, b, reports) = messages-there buf start end p raw (accepted-is buf start end p is) o in
+          let same = sym (kept-stamped (kindIn w) (flagsIn w) (bodyIn w) es o b) in
+          (es, body-kept (kindIn w) (flagsIn w) (bodyIn w) es o .0 b, subst (λ (t : Bool). Reports buf start end es t) same reports);
       carried-none =
           λ buf start end p is message uart.
           carried-none buf start end p (accepted-is buf start end p is) (rw (ne-eqb _ 0x30 message, ne-eqb _ 0x50 uart));

@@ -24,7 +24,7 @@ use Rattle.recording.specs.Reading.{reading}
 use Rattle.recording.proofs.HandedOut.{hands-out, hands-out-once}
 use Rattle.promises.specs.Contents.{Contents, packetOf, Accepts, outputOf}
 use Rattle.promises.specs.Endings.{Ends, listedTold, givenTold, writtenTold}
-use Rattle.promises.specs.Table.{writerTable}
+use Rattle.promises.specs.WriterOrder.{writerTable}
 use Rattle.promises.specs.Document01.{WritesOrNot, Document01}
 use Rattle.promises.proofs.Ends.{above}
 use Rattle.promises.proofs.Keeping.{refused-exactly}

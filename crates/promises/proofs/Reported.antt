@@ -142,10 +142,9 @@ module _ (buf : List ℕ) (s e : ℕ) (p : Packet) (es : List Entry) (h : readPa
       ∙ sym (part-part w body d at n fits)
       ∙ block-bytes (kindIn w) (messageRule (flagsIn w)) (bodyIn w) es b k more
 
-  pub blocks-reported : Reports buf s e es
+  pub blocks-reported : Reports buf s e es (b .shape .stamped)
   blocks-reported =
       record {
-        blocks = b;
         counted = λ len₁ len₂ room. ap listTold (lists-all buf s e p (length es) h has-count len₁ len₂ room);
         crowded = λ len₁ len₂ short. ap listTold (lists-none buf s e p (length es) h has-count len₁ len₂ short);
         listed =
@@ -161,11 +160,12 @@ module _ (buf : List ℕ) (s e : ℕ) (p : Packet) (es : List Entry) (h : readPa
 
 -- an accepted packet of a type that we open: the messages there, and what each call says of them
 pub messages-there : (buf : List ℕ) (s e : ℕ) (p : Packet) → Bytes buf → readPacket buf s e ≡ Accepted p → opens (kindIn (window buf s e)) ≡ true
-    → (es : List Entry) × Reports buf s e es
+    → (es : List Entry) × (b : BodyOf (kindIn (window buf s e)) (messageRule (flagsIn (window buf s e))) (bodyIn (window buf s e)) es)
+    × Reports buf s e es (b .shape .stamped)
 messages-there buf s e p raw h o =
     let keeps = accepted-exactly buf raw s e .0 (ap (λ (x : PacketRead). told x .refusal .number) h) in
     let m = kept-messages buf s e (window buf s e) (keeps 15 (omega arith) (omega arith)) o in
-    (m .0, blocks-reported buf s e p (m .0) h (m .1))
+    (m .0, m .1, blocks-reported buf s e p (m .0) h (m .1))
 
 -- of any other type: none
 pub carried-none : (buf : List ℕ) (s e : ℕ) (p : Packet) → readPacket buf s e ≡ Accepted p → opens (kindIn (window buf s e)) ≡ false

@@ -42,7 +42,8 @@ pub record Demand2 : Type 0 where
   -- the messages of a type that we open are the blocks of its body, all of them, each where it stands
   pub messages-there : (buf : List ℕ) → Bytes buf → (start end : ℕ) (p : Packet) → told (readPacket buf start end) ≡ readTold noRefusal p
       → (kindIn (window buf start end) ≡ 0x30) ⊎ (kindIn (window buf start end) ≡ 0x50)
-      → (es : List Entry) × BodyKept (kindIn (window buf start end)) (flagsIn (window buf start end)) (bodyIn (window buf start end)) es × Reports buf start end es
+      → (es : List Entry) × (b : BodyKept (kindIn (window buf start end)) (flagsIn (window buf start end)) (bodyIn (window buf start end)) es)
+      × Reports buf start end es (b .stamped)
   -- of any other type there are none
   pub carried-none : (buf : List ℕ) (start end : ℕ) (p : Packet) → told (readPacket buf start end) ≡ readTold noRefusal p
       → kindIn (window buf start end) ≢ 0x30 → kindIn (window buf start end) ≢ 0x50

@@ -29,7 +29,7 @@ use Rattle.promises.specs.Contents.{Contents, packetOf, Accepts, outputO
 use Rattle.promises.specs.Endings.{Ends, listedTold, givenTold, writtenTold}
 use Rattle.promises.specs.Keeps.{Rule}
 use Rattle.promises.specs.Building.{Building}
-use Rattle.promises.specs.Table.{writerTable}
+use Rattle.promises.specs.WriterOrder.{writerTable}
 
 -- the writer's answer where 17, 5 to 9 and 12 have nothing against it: 15 by the body, then 16 with the packet's length as room
 pub record WritesOrNot (c : Contents) (room : ℕ) : Type 0 where

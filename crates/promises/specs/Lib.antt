@@ -7,7 +7,7 @@ pub mod Building
 pub mod Reports
 pub mod Altered
 pub mod ReadsAs
-pub mod Table
+pub mod WriterOrder
 pub mod Demand1
 pub mod Demand2
 pub mod Demand3

@@ -1,5 +1,5 @@
 // The three demands are theorems: specs/Demand1.antt, Demand2.antt and Demand3.antt, on the definitions that the contracts of the
-// public calls cite. The functions here tie them to the code: each is a public call, and promises of it what specs/Calls.antt says.
+// public calls cite. The functions here tie them to the code: each makes one public call, and promises of it what specs/Calls.antt says.
 ghost use Rattle.promises.specs.Calls.{ReadPacket, ListMessages, GiveMessage, WritePacket, ReadRecording, Fresh, Open, Add, Close};
 use builder::Draft;
 use builder::Step;
