@@ -1,0 +1,24 @@
+use mathlib.Core.Path.{sym, ap}
+use borrow.Author.Needs.{needs}
+use Rattle.packet.specs.Messages.{listTold}
+use Rattle.ch11.specs.Words.{listWords}
+use Rattle.ch11.proofs.words.list_words.Statement.{statement}
+use Rattle.ch11.proofs.words.list_words.Tie as tie
+
+returns : tie.Need-returns
+unfolding listWords
+returns c = sym (ap (λ a. listWords (listTold a)) (c .before .answer .given .1))
+
+returns-2 : tie.Need-returns-2
+unfolding listWords
+returns-2 c = sym (ap (λ a. listWords (listTold a)) (c .before .before .answer2 .given .1))
+
+pub list-words-spec : {M : Type 1} → statement M
+list-words-spec =
+    tie.close
+    (tie.spec
+    (λ c. search needs)
+    (λ c. search needs)
+    (λ c. search needs)
+    returns
+    returns-2)

@@ -1,0 +1,25 @@
+use mathlib.Core.Path.{sym, ap}
+use borrow.Author.Needs.{needs}
+use Rattle.packet.specs.Messages.{messageTold}
+use Rattle.ch11.specs.Words.{messageWords}
+use Rattle.ch11.proofs.words.message_words.Statement.{statement}
+use Rattle.ch11.proofs.words.message_words.Tie as tie
+
+returns : tie.Need-returns
+unfolding messageWords
+returns c = sym (ap (λ a. messageWords (messageTold a)) (c .before .before .answer .given .1))
+
+returns-2 : tie.Need-returns-2
+unfolding messageWords
+returns-2 c = sym (ap (λ a. messageWords (messageTold a)) (c .before .before .answer2 .given .1))
+
+pub message-words-spec : {M : Type 1} → statement M
+message-words-spec =
+    tie.close
+    (tie.spec
+    (λ c. search needs)
+    (λ c. search needs)
+    (λ c. search needs)
+    (λ c. search needs)
+    returns
+    returns-2)

@@ -1,0 +1,59 @@
+-- The structs of include/ch11.h as 64-bit words, in the header's order: document 01's number and values of each answer.
+use mathlib.Core.List.{List, [], _∷_, _++_}
+use Prim.Native.Nat.{ℕ}
+use Rattle.body.specs.declared.Refusal.{Refusal}
+use Rattle.builder.specs.Build.{Told as Build·Told}
+use Rattle.frame.specs.declared.Fields.{Fields}
+use Rattle.packet.specs.Read.{Told}
+use Rattle.packet.specs.Messages.{ListTold, MessageTold}
+use Rattle.packet.specs.Write.{WriteTold}
+use Rattle.packet.specs.declared.Part.{Part}
+use Rattle.recording.specs.declared.Recording.{Recording}
+
+-- ---- structs inside others
+
+-- struct ch11_refusal
+abbrev pub refusalWords : Refusal → List ℕ
+refusalWords r = r .number ∷ r .place ∷ r .room ∷ []
+
+-- struct ch11_fields
+abbrev pub fieldsWords : Fields → List ℕ
+fieldsWords f = f .channel ∷ f .version ∷ f .sequence ∷ f .flags ∷ f .kind ∷ f .rtc ∷ f .time ∷ []
+
+-- struct ch11_part
+abbrev pub partWords : Part → List ℕ
+partWords p = p .at ∷ p .length ∷ []
+
+-- ---- results
+
+-- struct ch11_packet
+unfoldable pub packetWords : Told → List ℕ
+packetWords t =
+    refusalWords (t .refusal)
+    ++ fieldsWords (t .packet .fields)
+    ++ (t .packet .length ∷ t .packet .datalength ∷ t .packet .headsum ∷ t .packet .datasum ∷ [])
+    ++ partWords (t .packet .header)
+    ++ partWords (t .packet .secondary)
+    ++ partWords (t .packet .body)
+    ++ partWords (t .packet .filler)
+    ++ partWords (t .packet .sum)
+
+-- struct ch11_list
+unfoldable pub listWords : ListTold → List ℕ
+listWords t = refusalWords (t .refusal) ++ (t .count ∷ [])
+
+-- struct ch11_message
+unfoldable pub messageWords : MessageTold → List ℕ
+messageWords t = refusalWords (t .refusal) ++ (t .message .time ∷ t .message .id ∷ t .message .start ∷ t .message .length ∷ [])
+
+-- struct ch11_recording
+unfoldable pub recordingWords : Recording → List ℕ
+recordingWords r = refusalWords (r .refusal) ++ (r .accepted ∷ r .reached ∷ [])
+
+-- struct ch11_written
+unfoldable pub writtenWords : WriteTold → List ℕ
+writtenWords t = refusalWords (t .refusal) ++ (t .length ∷ [])
+
+-- struct ch11_draft
+unfoldable pub draftWords : Build·Told → List ℕ
+draftWords t = t .number ∷ t .place ∷ t .room ∷ t .draft .used ∷ t .draft .blocks ∷ t .draft .kind ∷ t .draft .rule ∷ []

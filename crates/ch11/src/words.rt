@@ -1,0 +1,123 @@
+// An answer as the words of its struct.
+ghost use mathlib.Core.Path.{_≡_};
+ghost use Rattle.packet.specs.Read.{told};
+ghost use Rattle.packet.specs.Messages.{listTold, messageTold};
+ghost use Rattle.packet.specs.Write.{writeTold};
+ghost use Rattle.ch11.specs.Words.{packetWords, listWords, messageWords, recordingWords, writtenWords};
+use packet::PacketList;
+use packet::PacketMessage;
+use packet::PacketRead;
+use packet::PacketWrite;
+use recording::Recording;
+
+// struct ch11_packet.
+pub fn packet_words(answer: PacketRead) -> [u64; 24]
+    ensures { λ r. ⌜ r ≡ packetWords (told answer) ⌝ }
+{
+    match answer {
+        PacketRead::Accepted(p) => [
+            0,
+            0,
+            0,
+            p.fields.channel as u64,
+            p.fields.version as u64,
+            p.fields.sequence as u64,
+            p.fields.flags as u64,
+            p.fields.kind as u64,
+            p.fields.rtc,
+            p.fields.time,
+            p.length as u64,
+            p.datalength as u64,
+            p.headsum as u64,
+            p.datasum as u64,
+            p.header.at as u64,
+            p.header.length as u64,
+            p.secondary.at as u64,
+            p.secondary.length as u64,
+            p.body.at as u64,
+            p.body.length as u64,
+            p.filler.at as u64,
+            p.filler.length as u64,
+            p.sum.at as u64,
+            p.sum.length as u64,
+        ],
+        PacketRead::Refused(f) => [
+            f.number as u64,
+            f.place as u64,
+            f.room as u64,
+            0,
+            0,
+            0,
+            0,
+            0,
+            0,
+            0,
+            0,
+            0,
+            0,
+            0,
+            0,
+            0,
+            0,
+            0,
+            0,
+            0,
+            0,
+            0,
+            0,
+            0,
+        ],
+    }
+}
+
+// struct ch11_list.
+pub fn list_words(answer: PacketList) -> [u64; 4]
+    ensures { λ r. ⌜ r ≡ listWords (listTold answer) ⌝ }
+{
+    match answer {
+        PacketList::Listed(count) => [0, 0, 0, count as u64],
+        PacketList::Unlisted(f) => [f.number as u64, f.place as u64, f.room as u64, 0],
+    }
+}
+
+// struct ch11_message.
+pub fn message_words(answer: PacketMessage) -> [u64; 7]
+    ensures { λ r. ⌜ r ≡ messageWords (messageTold answer) ⌝ }
+{
+    match answer {
+        PacketMessage::Given(m) => [
+            0,
+            0,
+            0,
+            m.time,
+            m.id as u64,
+            m.start as u64,
+            m.length as u64,
+        ],
+        PacketMessage::Withheld(f) => [f.number as u64, f.place as u64, f.room as u64, 0, 0, 0, 0],
+    }
+}
+
+// struct ch11_recording.
+pub fn recording_words(answer: Recording) -> [u64; 5]
+    ensures { λ r. ⌜ r ≡ recordingWords answer ⌝ }
+{
+    let f = answer.refusal;
+    [
+        f.number as u64,
+        f.place as u64,
+        f.room as u64,
+        answer.accepted as u64,
+        answer.reached as u64,
+    ]
+}
+
+// struct ch11_written.
+pub fn written_words(answer: PacketWrite) -> [u64; 4]
+    ensures { λ r. ⌜ r ≡ writtenWords (writeTold answer) ⌝ }
+{
+    match answer {
+        PacketWrite::Written(length) => [0, 0, 0, length as u64],
+        PacketWrite::Unwritten(f) => [f.number as u64, f.place as u64, f.room as u64, 0],
+    }
+}

@@ -1,0 +1,2 @@
+//! A safe wrapper over libch11.a.
+pub mod raw;

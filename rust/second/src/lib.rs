@@ -1,0 +1,97 @@
+//! A second program for the rules of document 01: a reader for one packet, a
+//! lister of the messages in a packet, a reader for a whole recording, a body
+//! builder, a packet writer and the listing.
+//!
+//! Sentences in quotation marks are those of document 01.
+
+#![forbid(unsafe_code)]
+
+mod body;
+mod builder;
+mod listing;
+mod reader;
+mod rules;
+mod writer;
+
+pub use builder::{add, close, open};
+pub use listing::{listing, LONGEST_INPUT};
+pub use reader::{list_messages, message, read_packet, read_recording};
+pub use writer::write_packet;
+
+/// "A refusal returns its number and place; all other results are zero, save
+/// that [...] 16 also gives the room needed".
+#[derive(Clone, Copy, Debug, PartialEq, Eq, Default)]
+pub struct Refusal {
+    pub number: u64,
+    pub place: u64,
+    pub room: u64,
+}
+
+/// The fields that the reader reports and the writer takes.
+/// `time` is "the secondary time (0 if absent)".
+#[derive(Clone, Copy, Debug, PartialEq, Eq, Default)]
+pub struct Fields {
+    pub channel: u64,
+    pub version: u64,
+    pub sequence: u64,
+    pub flags: u64,
+    pub kind: u64,
+    pub rtc: u64,
+    pub time: u64,
+}
+
+/// The place, counted from the buffer's first byte, and the length of a part.
+/// "an absent part has length 0, at the place where it would stand".
+#[derive(Clone, Copy, Debug, PartialEq, Eq, Default)]
+pub struct Part {
+    pub at: u64,
+    pub length: u64,
+}
+
+/// What an accepted packet returns.
+#[derive(Clone, Copy, Debug, PartialEq, Eq, Default)]
+pub struct Packet {
+    pub fields: Fields,
+    /// P.
+    pub length: u64,
+    /// D.
+    pub data_length: u64,
+    /// The header sum as stored.
+    pub header_sum: u64,
+    /// The data sum as stored, 0 if absent.
+    pub data_sum: u64,
+    pub header: Part,
+    pub secondary: Part,
+    pub body: Part,
+    pub filler: Part,
+    pub sum: Part,
+}
+
+/// "one message by its number, from 0: time (0 if none is stored), ID word,
+/// start and length". The start is counted from the packet's first byte.
+#[derive(Clone, Copy, Debug, PartialEq, Eq, Default)]
+pub struct Message {
+    pub time: u64,
+    pub id: u64,
+    pub start: u64,
+    pub length: u64,
+}
+
+/// "the number accepted, the place reached and the refusal there, or 0 at the
+/// exact end".
+#[derive(Clone, Copy, Debug, PartialEq, Eq, Default)]
+pub struct Recording {
+    pub refusal: Refusal,
+    pub accepted: u64,
+    pub reached: u64,
+}
+
+/// The builder's state: bytes used, blocks added, type and time rule.
+/// All zero is the fresh one.
+#[derive(Clone, Copy, Debug, PartialEq, Eq, Default)]
+pub struct Draft {
+    pub used: u64,
+    pub blocks: u64,
+    pub kind: u64,
+    pub rule: u64,
+}

@@ -1,0 +1,33 @@
+# Sourced by the scripts that build and run Rust and C for x86-64, which Rattle compiles for. On x86-64 the machine's own tools do it;
+# on another machine Debian's cross compiler, its Rust for amd64 and its emulator. `x86_tools` installs what is missing (Debian packages).
+
+x86_root=$(cd "$(dirname "${BASH_SOURCE[0]}")/.." && pwd)
+export CARGO_TARGET_DIR=$x86_root/target/rust CARGO_NET_OFFLINE=true CARGO_BUILD_TARGET=x86_64-unknown-linux-gnu
+x86_built=$CARGO_TARGET_DIR/$CARGO_BUILD_TARGET/release
+
+x86_install() {
+    DEBIAN_FRONTEND=noninteractive apt-get install -y -qq --no-install-recommends "$@" >/dev/null
+}
+
+if [ "$(uname -m)" = x86_64 ]; then
+    x86_cc=cc
+    x86_runner=
+    x86_tools() {
+        local missing=()
+        command -v cargo >/dev/null || missing+=(cargo rustc)
+        command -v cc >/dev/null || missing+=(gcc libc6-dev)
+        [ ${#missing[@]} -eq 0 ] || { apt-get update -qq && x86_install "${missing[@]}"; }
+    }
+    x86_cargo() { cargo "$@"; }
+else
+    x86_cc=x86_64-linux-gnu-gcc
+    x86_runner=qemu-x86_64
+    export CARGO_TARGET_X86_64_UNKNOWN_LINUX_GNU_LINKER=$x86_cc CARGO_TARGET_X86_64_UNKNOWN_LINUX_GNU_RUNNER=$x86_runner
+    x86_tools() {
+        local packages="cargo rustc libstd-rust-dev:amd64 gcc-x86-64-linux-gnu libc6-dev-amd64-cross qemu-user libc6:amd64"
+        # shellcheck disable=SC2086
+        dpkg -s $packages >/dev/null 2>&1 && return
+        dpkg --add-architecture amd64 && apt-get update -qq && x86_install $packages
+    }
+    x86_cargo() { RUSTC=/usr/bin/rustc RUSTDOC=/usr/bin/rustdoc /usr/bin/cargo "$@"; }
+fi
