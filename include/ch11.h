@@ -6,29 +6,32 @@
  *
  * A reader looks at a window: the bytes buf[start] to buf[end - 1] of a buffer of len bytes. Nothing outside the window has a say,
  * also where the buffer holds older bytes behind the filled end. Every input is answered, any start and end too; a call never reads
- * or writes outside what it is lent, keeps nothing, allocates nothing and never fails otherwise than by a refusal.
+ * or writes outside what it is lent, keeps nothing (so threads may call at the same time), allocates nothing and never fails otherwise
+ * than by a refusal.
  *
- * Every result is written into a struct of 64-bit numbers. Each call returns the refusal's number, 0 for none, which is also the first
- * field of its struct. On a refusal all other results are 0, but for the place, for the room that 16 gives, for the
- * recording's two numbers and for the builder's state; lists, buffers and outputs are then as they were.
+ * Every result is written into a struct of 64-bit numbers, which needs no filling beforehand, save the builder's. Each call returns the
+ * refusal's number, 0 for none; the struct begins with the same number. On a refusal all other results are 0, but for the place, for
+ * the room that 16 gives, for the recording's two numbers and for the builder's state; lists, buffers and outputs are then as they were.
  *
- * Link with libch11.a (x86-64 Linux). Pointers must not be null and must be good for the length given, a struct's for the struct; what a
- * call may write to must not overlap anything else that the same call is lent. A length of 0 is fine.
+ * Pointers must not be null, not even with a length of 0 (which is fine), and must be good for the length given, a struct's for the
+ * struct. What a call may write to must not overlap anything else that the same call is lent.
+ *
+ * For x86-64 Linux: cc -I include program.c libch11.a. The whole of this example is in examples/c/channels.c.
  *
  *     #include <stdio.h>
  *     #include "ch11.h"
  *
- *     // Prints the channel of each packet in buf[0] to buf[filled - 1]; returns the number of the refusal that ends it, or 0.
- *     uint64_t print_channels(const uint8_t *buf, size_t len, size_t filled)
+ *     // Prints the channel of each packet in buf[0] to buf[filled - 1]; gives the refusal that ends it, of number 0 at the exact end.
+ *     static struct ch11_refusal print_channels(const uint8_t *buf, size_t len, size_t filled)
  *     {
- *         struct ch11_packet packet;
+ *         struct ch11_packet packet = {0};
  *         for (size_t at = 0; at < filled; at += packet.length) {
- *             if (ch11_read_packet(buf, len, at, filled, &packet) != 0) {
- *                 return packet.refusal.number;
+ *             if (ch11_read_packet(buf, len, at, filled, &packet) != CH11_NONE) {
+ *                 break;
  *             }
  *             printf("%llu\n", (unsigned long long)packet.fields.channel);
  *         }
- *         return 0;
+ *         return packet.refusal;
  *     }
  */
 #ifndef CH11_H
@@ -45,7 +48,8 @@ extern "C" {
 
 enum {
     CH11_NONE = 0,
-    CH11_STATE = 1,          /* the window, or a builder's used count, is outside its buffer; or a builder's state is not one that opening and adding give */
+    CH11_STATE = 1,          /* the window or a builder's used count is outside its buffer; or that count is under 4, or the builder's
+                                state has a type or time rule that opening refuses, or over 65,535 blocks in 0x30 */
     CH11_SHORT = 2,          /* fewer than 24 bytes in the window */
     CH11_SYNC = 3,           /* wrong sync */
     CH11_HEADER_SUM = 4,     /* wrong header sum */
@@ -53,10 +57,10 @@ enum {
     CH11_TYPE = 6,           /* reserved type */
     CH11_FLAGS = 7,          /* reserved time format, or absolute message times without a secondary header */
     CH11_CHANNEL = 8,        /* channel 0 with a type other than 0x01 and 0x04 */
-    CH11_LENGTH = 9,         /* a length rule: packet length, data length, or how they agree */
+    CH11_LENGTH = 9,         /* a length rule: packet length, data length, or how they agree; see struct ch11_packet */
     CH11_CUT = 10,           /* the packet is longer than the window */
     CH11_SECONDARY_SUM = 11, /* wrong secondary sum */
-    CH11_SECONDARY = 12,     /* secondary reserved bytes not zero, or a time out of form */
+    CH11_SECONDARY = 12,     /* secondary reserved bytes not zero, or a secondary time out of form */
     CH11_DATA_SUM = 13,      /* wrong data sum */
     CH11_FILLER = 14,        /* filler not zero */
     CH11_LAYOUT = 15,        /* an opened body breaks its layout; a builder's time out of form, or a body closed without a block */
@@ -65,43 +69,50 @@ enum {
 };
 
 struct ch11_refusal {
-    uint64_t number; /* as above; 0: none */
-    uint64_t place;  /* the packet's first byte; for 15 that of the block at fault; counted from the buffer's first byte. Writer and builder: 0 */
+    uint64_t number; /* as above; 0: none, and then the other two are 0 as well */
+    uint64_t place;  /* where, counted from the buffer's first byte: the start of the packet; for 15 the channel word or the first byte
+                        of the block at fault, of the bytes left over, or where a missing block should begin. Writer and builder: 0 */
     uint64_t room;   /* for 16: the messages, or the bytes of the whole packet or body, that need room; else 0 */
 };
 
 /* ---- one packet */
 
 struct ch11_fields {
-    uint64_t channel;  /* 0 to 65,535 */
+    uint64_t channel;  /* 0 to 65,535; 0 only with types 0x01 and 0x04 */
     uint64_t version;  /* data type version, 1 to 9 */
     uint64_t sequence; /* sequence number, 0 to 255 */
-    uint64_t flags;    /* bit 7 secondary header; 6 message times absolute; 5, 4 carried; 3-2 time format; 1-0 data sum of 0, 8, 16, 32 bits */
-    uint64_t type;     /* data type */
-    uint64_t rtc;      /* relative time counter, 48 bits */
-    uint64_t time;     /* secondary time, high * 2^32 + low; 0 without a secondary header */
+    uint64_t flags;    /* bit 7: secondary header present; bit 6: message times are absolute (bit 7 must then be 1); bits 5, 4: carried;
+                          bits 3-2: time format, 00 Chapter 4, 01 IEEE 1588, 10 extended counter, 11 reserved;
+                          bits 1-0: data sum, 00 none, 01 8 bits, 10 16 bits, 11 32 bits */
+    uint64_t type;     /* data type: 0x00-0x04, 0x09, 0x0A, 0x11, 0x12, 0x19, 0x1A, 0x21, 0x29, 0x30, 0x38, 0x40-0x44, 0x48-0x4A, 0x50,
+                          0x58, 0x59, 0x60, 0x68, 0x69, 0x70-0x72, 0x78-0x7A; all others are reserved */
+    uint64_t rtc;      /* relative time counter, below 2^48 */
+    uint64_t time;     /* secondary time, high * 2^32 + low; 0 without a secondary header. Its form goes by the time format:
+                          Chapter 4: the low 16 bits are zero; IEEE 1588: high is seconds, low is nanoseconds below 1,000,000,000;
+                          extended counter: any */
 };
 
 struct ch11_part {
     uint64_t at;     /* counted from the buffer's first byte */
-    uint64_t length; /* 0: absent, and `at` is where it would stand */
+    uint64_t length; /* in bytes; 0: absent, and `at` is where it would stand */
 };
 
 struct ch11_packet {
     struct ch11_refusal refusal;
     struct ch11_fields fields;
-    uint64_t length;      /* packet length P: the five parts together */
-    uint64_t data_length; /* data length D: the body */
+    uint64_t length;      /* packet length P: the five parts together; a multiple of 4, at most 524,288, or 134,217,728 for type 0x01 */
+    uint64_t data_length; /* data length D: the body; at least 1 */
     uint64_t header_sum;  /* as stored */
     uint64_t data_sum;    /* as stored; 0 without one */
-    struct ch11_part header;
+    struct ch11_part header; /* `header.at` is the packet's first byte */
     struct ch11_part secondary;
     struct ch11_part body;
     struct ch11_part filler;
     struct ch11_part sum;
 };
 
-/* Reads the packet at the window's start. Refusals 1 to 15. */
+/* Reads the packet at the window's start; the window may go on behind it. The next packet, if any, begins at start + length. Refusals 1
+ * to 15. */
 uint64_t ch11_read_packet(const uint8_t *buf, size_t len, size_t start, size_t end, struct ch11_packet *packet);
 
 /* ---- the messages of a packet */
@@ -113,19 +124,22 @@ struct ch11_list {
 
 /* Lists the messages of the packet at the window's start: entry k of the two lists is the start, counted from the packet's first byte,
  * and the length of message k. Entries past the count are untouched. Refusals 1 to 15, then 16 where there are more messages than the
- * shorter list holds; with lists of no entries, that room is the number of messages. */
-uint64_t ch11_list_messages(const uint8_t *buf, size_t len, size_t start, size_t end, uint32_t *starts, size_t starts_len, uint32_t *lengths,
-                            size_t lengths_len, struct ch11_list *list);
+ * shorter list holds. To count the messages beforehand, lend lists of length 0: the count is the room that 16 gives, or 0 without a
+ * refusal. */
+uint64_t ch11_list_messages(const uint8_t *buf, size_t len, size_t start, size_t end, uint32_t *starts, size_t starts_len,
+                            uint32_t *lengths, size_t lengths_len, struct ch11_list *list);
 
 struct ch11_message {
     struct ch11_refusal refusal;
-    uint64_t time;   /* 0 where none is stored */
-    uint64_t id;     /* the ID word, its reserved bits as read */
+    uint64_t time;   /* 0 where none is stored; else below 2^48, or with bit 6 of the flags in the form of the secondary time */
+    uint64_t id;     /* the ID word, 32 bits, its reserved bits as read; bits 15-0 are the length */
     uint64_t start;  /* of its bytes, counted from the packet's first byte */
-    uint64_t length;
+    uint64_t length; /* of its bytes, 1 to 65,535 */
 };
 
-/* Gives one message of the packet at the window's start, by its number from 0. Refusals 1 to 15, then 17 where there is none. */
+/* Gives one message of the packet at the window's start, by its number from 0. Refusals 1 to 15, then 17 where there is none, as always in
+ * a type that isn't opened. Each call reads the packet anew; where starts and lengths are enough, one call of ch11_list_messages gives
+ * those of all messages. */
 uint64_t ch11_message(const uint8_t *buf, size_t len, size_t start, size_t end, size_t number, struct ch11_message *message);
 
 /* ---- a recording */
@@ -136,7 +150,8 @@ struct ch11_recording {
     uint64_t reached;            /* the refused packet's first byte, or the end; given with a refusal too */
 };
 
-/* Reads the packets of a window, each at the end of the one before; the first that is refused ends the reading. Refusals 1 to 15. */
+/* Reads the packets of a window, each at the end of the one before; the first that is refused ends the reading. Refusals 1 to 15. An empty
+ * window holds no packets and isn't refused. */
 uint64_t ch11_read_recording(const uint8_t *buf, size_t len, size_t start, size_t end, struct ch11_recording *recording);
 
 /* ---- the writer */
@@ -147,25 +162,28 @@ struct ch11_written {
 };
 
 /* Writes the packet of these fields and this body at the output's first byte, and works out lengths, filler and sums; bytes behind it are
- * untouched. First 17 (a value that its field can't hold; a time without bit 7 of the flags), then 5 to 9, 12 and 15, then 16. */
+ * untouched. First 17 (a value that its field can't hold; a time other than 0 with bit 7 of the flags clear), then 5 to 9, 12 and 15 by the
+ * reader's rules, then 16. */
 uint64_t ch11_write_packet(const struct ch11_fields *fields, const uint8_t *body, size_t body_len, uint8_t *out, size_t out_len,
                            struct ch11_written *written);
 
 /* ---- the body builder: 0x30 bodies of complete messages, and 0x50 bodies */
 
-/* Time rules: what the message times of a body are. */
+/* Time rules: what the message times of a body are. The rule isn't stored in the body, a reader goes by the packet's flags: write the
+ * packet with the flags given here; under others its times are refused (15) if out of form, or misread. */
 enum {
-    CH11_NO_TIMES = 0,   /* 0x50 only: no times are stored */
-    CH11_COUNTER = 1,    /* below 2^48 (bit 6 of the flags clear) */
-    CH11_CHAPTER_4 = 2,  /* absolute, low 16 bits zero */
-    CH11_IEEE_1588 = 3,  /* absolute, seconds * 2^32 + nanoseconds below 1,000,000,000 */
-    CH11_EXTENDED = 4    /* absolute, any value */
+    CH11_NO_TIMES = 0,   /* 0x50 only: no times are stored; any flags */
+    CH11_COUNTER = 1,    /* below 2^48; bit 6 clear */
+    CH11_CHAPTER_4 = 2,  /* absolute, low 16 bits zero; bits 7 and 6 set, time format 00 */
+    CH11_IEEE_1588 = 3,  /* absolute, seconds * 2^32 + nanoseconds below 1,000,000,000; bits 7 and 6 set, time format 01 */
+    CH11_EXTENDED = 4    /* absolute, any value; bits 7 and 6 set, time format 10 */
 };
 
-/* The state of a body that is being built: start with all zeros, hand it from step to step, don't change the buffer between. A step that
- * is refused changes nothing but the refusal. Closed, the body is the first `used` bytes of the buffer. */
+/* The state of a body that is being built: start with all zeros, hand it from step to step (open, add for each block, close), don't change
+ * the buffer between. A step that is refused changes nothing but the refusal, so that the next may go on from there, after 16 with a longer
+ * buffer that begins with the same bytes. Closed, the body is the first `used` bytes of the buffer. */
 struct ch11_draft {
-    struct ch11_refusal refusal; /* of the last step */
+    struct ch11_refusal refusal; /* of the last step; not looked at by the next */
     uint64_t used;               /* bytes so far */
     uint64_t blocks;             /* blocks so far */
     uint64_t type;               /* 0x30 or 0x50 */
@@ -175,12 +193,13 @@ struct ch11_draft {
 /* Opens a body of this type and time rule at the buffer's first byte. 17 for another type or rule, or no times in 0x30; then 16. */
 uint64_t ch11_open(struct ch11_draft *draft, uint8_t *buf, size_t len, uint64_t type, uint64_t rule);
 
-/* Adds a block: its time (0 where none is stored), the upper half of its ID word, and its 1 to 65,535 bytes.
- * 1; then 17 for an upper half or a number of bytes out of range, or a 65,536th block in 0x30; then 15 for a time out of form (17 for a time
- * that isn't 0 where none is stored); then 16. */
-uint64_t ch11_add(struct ch11_draft *draft, uint8_t *buf, size_t len, uint64_t time, uint64_t upper, const uint8_t *bytes, size_t bytes_len);
+/* Adds a block: its time (0 where none is stored), the upper half of its ID word (0 to 65,535), and its 1 to 65,535 bytes.
+ * 1; then 17 for an upper half or a number of bytes out of range, or a 65,536th block in 0x30; then 15 for a time out of form (17 for a
+ * time that isn't 0 where none is stored); then 16. */
+uint64_t ch11_add(struct ch11_draft *draft, uint8_t *buf, size_t len, uint64_t time, uint64_t upper, const uint8_t *bytes,
+                  size_t bytes_len);
 
-/* Closes a body: writes its counter in 0x30, nothing in 0x50. 1, then 15 where there is no block. */
+/* Closes a body: writes its counter in 0x30, nothing in 0x50. 1, then 15 where there is no block (the used count is 4). */
 uint64_t ch11_close(struct ch11_draft *draft, uint8_t *buf, size_t len);
 
 #ifdef __cplusplus

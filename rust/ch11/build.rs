@@ -6,12 +6,16 @@ fn main() {
     println!("cargo:rerun-if-env-changed=CH11_LIB_DIR");
     let folder = match env::var_os("CH11_LIB_DIR") {
         Some(folder) => PathBuf::from(folder),
-        None => PathBuf::from(env::var_os("CARGO_MANIFEST_DIR").expect("cargo sets it")).join("../../target/staticlib"),
+        None => PathBuf::from(env::var_os("CARGO_MANIFEST_DIR").expect("cargo sets it"))
+            .join("../../target/staticlib"),
     };
     let library = folder.join("libch11.a");
     println!("cargo:rerun-if-changed={}", library.display());
     if !library.exists() {
-        panic!("{} is not there: make it by `rt staticlib ch11`, or name its folder in CH11_LIB_DIR", library.display());
+        panic!(
+            "{} is not there: make it by `rt staticlib ch11`, or name its folder in CH11_LIB_DIR",
+            library.display()
+        );
     }
     println!("cargo:rustc-link-search=native={}", folder.display());
     println!("cargo:rustc-link-lib=static=ch11");

@@ -1,17 +1,6 @@
 // The C interface: each public call of the library, with its result in a lent struct of 64-bit words (include/ch11.h).
-// Each returns the refusal's number, 0 for none, which is also the struct's first word.
-ghost use mathlib.Core.Path.{_≡_};
-ghost use lib.ListN.{length, getD};
-ghost use Rattle.units.specs.Units.{bytesOf};
-ghost use Rattle.body.specs.Blocks.{blockBytes};
-ghost use Rattle.builder.specs.Build.{stamped, openStep, openWord, entryOf, closeStep, counterBytes, bufAfter, told as Build·told};
-ghost use Rattle.packet_bytes.specs.Bytes.{packetBytes};
-ghost use Rattle.packet.specs.Read.{window, readPacket, told};
-ghost use Rattle.packet.specs.Messages.{listPacket, listAfter, listTold, starts as Messages·starts, lengths as Messages·lengths, messagePacket, messageTold};
-ghost use Rattle.packet.specs.Write.{outAfter, writeTold};
-ghost use Rattle.recording.specs.Reading.{readRecording};
-ghost use Rattle.ch11.specs.Words.{packetWords, listWords, messageWords, recordingWords, writtenWords, draftWords};
-ghost use Rattle.ch11.specs.Given.{fieldsOf, writeGiven, draftOf, addGiven};
+// Each returns the refusal's number, 0 for none, which is also the struct's first word; specs/Calls.antt says all that it leaves behind.
+ghost use Rattle.ch11.specs.Calls.{ReadPacket, ListMessages, GiveMessage, ReadRecording, WritePacket, Open, Add, Close};
 use packet::list_messages;
 use packet::message;
 use packet::read_packet;
@@ -30,7 +19,7 @@ use words::packet_words;
 use words::recording_words;
 use words::written_words;
 
-// struct ch11_packet: see packet::read_packet.
+// Reads the packet at the start of a window: packet::read_packet.
 #[no_mangle]
 pub extern "C" fn ch11_read_packet(
     buf: &[u8],
@@ -38,14 +27,13 @@ pub extern "C" fn ch11_read_packet(
     end: usize,
     packet: &mut [u64; 24],
 ) -> u64
-    ensures { λ r. ⌜ r ≡ getD (now (packet .exit)) 0 0 ⌝ }
-    ensures { λ r. ⌜ now (packet .exit) ≡ packetWords (told (readPacket (now (buf .entry)) start end)) ⌝ }
+    ensures { λ r. ⌜ ReadPacket (now (buf .entry)) start end r (now (packet .exit)) ⌝ }
 {
     *packet = packet_words(read_packet(buf, start, end));
     packet[0]
 }
 
-// struct ch11_list: see packet::list_messages.
+// Lists the messages of the packet at the start of a window: packet::list_messages.
 #[no_mangle]
 pub extern "C" fn ch11_list_messages(
     buf: &[u8],
@@ -55,16 +43,13 @@ pub extern "C" fn ch11_list_messages(
     lengths: &mut [u32],
     list: &mut [u64; 4],
 ) -> u64
-    ensures { λ r. ⌜ r ≡ getD (now (list .exit)) 0 0 ⌝ }
-    ensures { λ r. ⌜ now (list .exit) ≡ listWords (listTold (listPacket (now (buf .entry)) start end (length (now (starts .entry))) (length (now (lengths .entry))))) ⌝ }
-    ensures { λ r. ⌜ now (starts .exit) ≡ listAfter (listPacket (now (buf .entry)) start end (length (now (starts .entry))) (length (now (lengths .entry)))) (Messages·starts (window (now (buf .entry)) start end)) (now (starts .entry)) ⌝ }
-    ensures { λ r. ⌜ now (lengths .exit) ≡ listAfter (listPacket (now (buf .entry)) start end (length (now (starts .entry))) (length (now (lengths .entry)))) (Messages·lengths (window (now (buf .entry)) start end)) (now (lengths .entry)) ⌝ }
+    ensures { λ r. ⌜ ListMessages (now (buf .entry)) start end (now (starts .entry)) (now (lengths .entry)) r (now (list .exit)) (now (starts .exit)) (now (lengths .exit)) ⌝ }
 {
     *list = list_words(list_messages(buf, start, end, starts, lengths));
     list[0]
 }
 
-// struct ch11_message: see packet::message.
+// Gives one message of the packet at the start of a window: packet::message.
 #[no_mangle]
 pub extern "C" fn ch11_message(
     buf: &[u8],
@@ -73,14 +58,13 @@ pub extern "C" fn ch11_message(
     number: usize,
     given: &mut [u64; 7],
 ) -> u64
-    ensures { λ r. ⌜ r ≡ getD (now (given .exit)) 0 0 ⌝ }
-    ensures { λ r. ⌜ now (given .exit) ≡ messageWords (messageTold (messagePacket (now (buf .entry)) start end number)) ⌝ }
+    ensures { λ r. ⌜ GiveMessage (now (buf .entry)) start end number r (now (given .exit)) ⌝ }
 {
     *given = message_words(message(buf, start, end, number));
     given[0]
 }
 
-// struct ch11_recording: see recording::read_recording.
+// Reads the packets of a window: recording::read_recording.
 #[no_mangle]
 pub extern "C" fn ch11_read_recording(
     buf: &[u8],
@@ -88,14 +72,13 @@ pub extern "C" fn ch11_read_recording(
     end: usize,
     recording: &mut [u64; 5],
 ) -> u64
-    ensures { λ r. ⌜ r ≡ getD (now (recording .exit)) 0 0 ⌝ }
-    ensures { λ r. ⌜ now (recording .exit) ≡ recordingWords (readRecording (now (buf .entry)) start end) ⌝ }
+    ensures { λ r. ⌜ ReadRecording (now (buf .entry)) start end r (now (recording .exit)) ⌝ }
 {
     *recording = recording_words(read_recording(buf, start, end));
     recording[0]
 }
 
-// struct ch11_fields, struct ch11_written: see packet::write_packet; 17 also for a value that its field can't hold.
+// Writes a packet: packet::write_packet; 17 also for a value that its field can't hold.
 #[no_mangle]
 pub extern "C" fn ch11_write_packet(
     fields: &[u64; 7],
@@ -103,26 +86,22 @@ pub extern "C" fn ch11_write_packet(
     out: &mut [u8],
     written: &mut [u64; 4],
 ) -> u64
-    ensures { λ r. ⌜ r ≡ getD (now (written .exit)) 0 0 ⌝ }
-    ensures { λ r. ⌜ now (written .exit) ≡ writtenWords (writeTold (writeGiven (fieldsOf (now (fields .entry))) (now (body .entry)) (length (now (out .entry))))) ⌝ }
-    ensures { λ r. ⌜ now (out .exit) ≡ outAfter (writeGiven (fieldsOf (now (fields .entry))) (now (body .entry)) (length (now (out .entry)))) (now (out .entry)) (packetBytes (fieldsOf (now (fields .entry))) (now (body .entry))) ⌝ }
+    ensures { λ r. ⌜ WritePacket (now (fields .entry)) (now (body .entry)) (now (out .entry)) r (now (written .exit)) (now (out .exit)) ⌝ }
 {
     *written = written_words(write_given(fields, body, out));
     written[0]
 }
 
-// struct ch11_draft: see builder's open. The state given has no say.
+// Opens a body: builder's open.
 #[no_mangle]
 pub extern "C" fn ch11_open(draft: &mut [u64; 7], buf: &mut [u8], kind: u64, rule: u64) -> u64
-    ensures { λ r. ⌜ r ≡ getD (now (draft .exit)) 0 0 ⌝ }
-    ensures { λ r. ⌜ now (draft .exit) ≡ draftWords (Build·told (openStep (draftOf (now (draft .entry))) kind rule (length (now (buf .entry))))) ⌝ }
-    ensures { λ r. ⌜ now (buf .exit) ≡ bufAfter (openStep (draftOf (now (draft .entry))) kind rule (length (now (buf .entry)))) (now (buf .entry)) 0 (bytesOf 4 (openWord kind rule)) ⌝ }
+    ensures { λ r. ⌜ Open (now (draft .entry)) (now (buf .entry)) kind rule r (now (draft .exit)) (now (buf .exit)) ⌝ }
 {
     *draft = open_given(*draft, buf, kind, rule);
     draft[0]
 }
 
-// See builder's add; 17 also for an upper half of 2^16 or more.
+// Adds a block: builder's add; 17 also for an upper half of 2^16 or more.
 #[no_mangle]
 pub extern "C" fn ch11_add(
     draft: &mut [u64; 7],
@@ -131,20 +110,16 @@ pub extern "C" fn ch11_add(
     upper: u64,
     bytes: &[u8],
 ) -> u64
-    ensures { λ r. ⌜ r ≡ getD (now (draft .exit)) 0 0 ⌝ }
-    ensures { λ r. ⌜ now (draft .exit) ≡ draftWords (Build·told (addGiven (draftOf (now (draft .entry))) (length (now (buf .entry))) time upper (length (now (bytes .entry))))) ⌝ }
-    ensures { λ r. ⌜ now (buf .exit) ≡ bufAfter (addGiven (draftOf (now (draft .entry))) (length (now (buf .entry))) time upper (length (now (bytes .entry)))) (now (buf .entry)) (draftOf (now (draft .entry)) .used) (blockBytes (stamped (draftOf (now (draft .entry)) .rule)) (entryOf time upper (now (bytes .entry)))) ⌝ }
+    ensures { λ r. ⌜ Add (now (draft .entry)) (now (buf .entry)) time upper (now (bytes .entry)) r (now (draft .exit)) (now (buf .exit)) ⌝ }
 {
     *draft = add_given(*draft, buf, time, upper, bytes);
     draft[0]
 }
 
-// See builder's close.
+// Closes a body: builder's close.
 #[no_mangle]
 pub extern "C" fn ch11_close(draft: &mut [u64; 7], buf: &mut [u8]) -> u64
-    ensures { λ r. ⌜ r ≡ getD (now (draft .exit)) 0 0 ⌝ }
-    ensures { λ r. ⌜ now (draft .exit) ≡ draftWords (Build·told (closeStep (draftOf (now (draft .entry))) (length (now (buf .entry))))) ⌝ }
-    ensures { λ r. ⌜ now (buf .exit) ≡ bufAfter (closeStep (draftOf (now (draft .entry))) (length (now (buf .entry)))) (now (buf .entry)) 0 (counterBytes (draftOf (now (draft .entry)))) ⌝ }
+    ensures { λ r. ⌜ Close (now (draft .entry)) (now (buf .entry)) r (now (draft .exit)) (now (buf .exit)) ⌝ }
 {
     *draft = close_given(*draft, buf);
     draft[0]

@@ -95,7 +95,13 @@ pub struct Draft {
 }
 
 extern "C" {
-    pub fn ch11_read_packet(buf: *const u8, len: usize, start: usize, end: usize, packet: *mut Packet) -> u64;
+    pub fn ch11_read_packet(
+        buf: *const u8,
+        len: usize,
+        start: usize,
+        end: usize,
+        packet: *mut Packet,
+    ) -> u64;
 
     pub fn ch11_list_messages(
         buf: *const u8,
@@ -109,9 +115,22 @@ extern "C" {
         list: *mut List,
     ) -> u64;
 
-    pub fn ch11_message(buf: *const u8, len: usize, start: usize, end: usize, number: usize, message: *mut Message) -> u64;
+    pub fn ch11_message(
+        buf: *const u8,
+        len: usize,
+        start: usize,
+        end: usize,
+        number: usize,
+        message: *mut Message,
+    ) -> u64;
 
-    pub fn ch11_read_recording(buf: *const u8, len: usize, start: usize, end: usize, recording: *mut Recording) -> u64;
+    pub fn ch11_read_recording(
+        buf: *const u8,
+        len: usize,
+        start: usize,
+        end: usize,
+        recording: *mut Recording,
+    ) -> u64;
 
     pub fn ch11_write_packet(
         fields: *const Fields,

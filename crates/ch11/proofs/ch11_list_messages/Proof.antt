@@ -11,8 +11,11 @@ returns c =
     let a = c .before .before .before .before .before .before .before .before .before .before .before .before .args in
     let w = window (a .buf .now) (a .start) (a .end) in
     let lists = c .before .before .before .before .before .before .list-messages in
-    let told = lists .ensures .0 in
-    (refl, (c .before .list-words .ensures ∙ ap (λ x. listWords (listTold x)) told, (lists .ensures .1 .0 ∙ ap (λ x. listAfter x (starts w) (a .starts .now)) told, lists .ensures .1 .1 ∙ ap (λ x. listAfter x (lengths w) (a .lengths .now)) told)))
+    let told = lists .ensures .0 in (
+      (c .before .list-words .ensures ∙ ap (λ x. listWords (listTold x)) told, refl),
+      lists .ensures .1 .0 ∙ ap (λ x. listAfter x (starts w) (a .starts .now)) told,
+      lists .ensures .1 .1 ∙ ap (λ x. listAfter x (lengths w) (a .lengths .now)) told,
+    )
 
 pub ch11-list-messages-spec : {M : Type 1} → statement M
 ch11-list-messages-spec =

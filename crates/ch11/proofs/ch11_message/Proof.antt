@@ -6,7 +6,7 @@ use Rattle.ch11.proofs.ch11_message.Statement.{statement}
 use Rattle.ch11.proofs.ch11_message.Tie as tie
 
 returns : tie.Need-returns
-returns c = (refl, c .before .message-words .ensures ∙ ap (λ a. messageWords (messageTold a)) (c .before .before .message .ensures))
+returns c = (c .before .message-words .ensures ∙ ap (λ a. messageWords (messageTold a)) (c .before .before .message .ensures), refl)
 
 pub ch11-message-spec : {M : Type 1} → statement M
 ch11-message-spec =

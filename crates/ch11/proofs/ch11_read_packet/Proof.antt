@@ -6,7 +6,7 @@ use Rattle.ch11.proofs.ch11_read_packet.Statement.{statement}
 use Rattle.ch11.proofs.ch11_read_packet.Tie as tie
 
 returns : tie.Need-returns
-returns c = (refl, c .before .packet-words .ensures ∙ ap (λ a. packetWords (told a)) (c .before .before .read-packet .ensures))
+returns c = (c .before .packet-words .ensures ∙ ap (λ a. packetWords (told a)) (c .before .before .read-packet .ensures), refl)
 
 pub ch11-read-packet-spec : {M : Type 1} → statement M
 ch11-read-packet-spec =

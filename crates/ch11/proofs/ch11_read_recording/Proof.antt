@@ -5,7 +5,7 @@ use Rattle.ch11.proofs.ch11_read_recording.Statement.{statement}
 use Rattle.ch11.proofs.ch11_read_recording.Tie as tie
 
 returns : tie.Need-returns
-returns c = (refl, c .before .recording-words .ensures ∙ ap (λ a. recordingWords a) (c .before .before .read-recording .ensures))
+returns c = (c .before .recording-words .ensures ∙ ap (λ a. recordingWords a) (c .before .before .read-recording .ensures), refl)
 
 pub ch11-read-recording-spec : {M : Type 1} → statement M
 ch11-read-recording-spec =

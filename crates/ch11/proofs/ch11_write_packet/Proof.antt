@@ -11,7 +11,7 @@ returns : tie.Need-returns
 returns c =
     let a = c .before .before .before .before .before .before .before .before .args in
     let writes = c .before .before .before .before .write-given in
-    (refl, (c .before .written-words .ensures ∙ ap (λ x. writtenWords (writeTold x)) (writes .ensures .0), writes .ensures .1 ∙ ap (λ x. outAfter x (a .out .now) (packetBytes (fieldsOf (a .fields .now)) (a .body .now))) (writes .ensures .0)))
+    ((c .before .written-words .ensures ∙ ap (λ x. writtenWords (writeTold x)) (writes .ensures .0), refl), writes .ensures .1 ∙ ap (λ x. outAfter x (a .out .now) (packetBytes (fieldsOf (a .fields .now)) (a .body .now))) (writes .ensures .0))
 
 pub ch11-write-packet-spec : {M : Type 1} → statement M
 ch11-write-packet-spec =

@@ -1,0 +1,70 @@
+-- What each call of include/ch11.h promises of its outcome, over the values at entry: the number it returns, and what each struct, list
+-- and buffer lent for writing holds at exit.
+use mathlib.Core.Path.{_≡_}
+use mathlib.Core.List.{List}
+use Prim.Native.Nat.{ℕ}
+use lib.ListN.{length, getD}
+use Rattle.units.specs.Units.{bytesOf}
+use Rattle.body.specs.Blocks.{blockBytes}
+use Rattle.builder.specs.Build.{stamped, openStep, openWord, entryOf, closeStep, counterBytes, bufAfter, told as Build·told}
+use Rattle.packet_bytes.specs.Bytes.{packetBytes}
+use Rattle.packet.specs.Read.{window, readPacket, told}
+use Rattle.packet.specs.Messages.{listPacket, listAfter, listTold, starts, lengths, messagePacket, messageTold}
+use Rattle.packet.specs.Write.{outAfter, writeTold}
+use Rattle.recording.specs.Reading.{readRecording}
+use Rattle.ch11.specs.Words.{packetWords, listWords, messageWords, recordingWords, writtenWords, draftWords}
+use Rattle.ch11.specs.Given.{fieldsOf, writeGiven, draftOf, addGiven}
+
+-- a struct holds these words, and the number returned is its first: the refusal's number, 0 for none
+abbrev pub Holds : List ℕ → ℕ → List ℕ → Type 0
+Holds words r struct = (struct ≡ words) × (r ≡ getD struct 0 0)
+
+-- ---- readers
+
+-- ch11_read_packet(buf, start, end, packet)
+abbrev pub ReadPacket : List ℕ → ℕ → ℕ → ℕ → List ℕ → Type 0
+ReadPacket buf start end = Holds (packetWords (told (readPacket buf start end)))
+
+-- ch11_list_messages(buf, start, end, starts, lengths, list): the two lists at entry; then the number, the struct and the two lists at exit
+abbrev pub ListMessages : List ℕ → ℕ → ℕ → List ℕ → List ℕ → ℕ → List ℕ → List ℕ → List ℕ → Type 0
+ListMessages buf start end starts₀ lengths₀ r list starts₁ lengths₁ =
+    Holds (listWords (listTold (listPacket buf start end (length starts₀) (length lengths₀)))) r list
+    × (starts₁ ≡ listAfter (listPacket buf start end (length starts₀) (length lengths₀)) (starts (window buf start end)) starts₀)
+    × (lengths₁ ≡ listAfter (listPacket buf start end (length starts₀) (length lengths₀)) (lengths (window buf start end)) lengths₀)
+
+-- ch11_message(buf, start, end, number, message)
+abbrev pub GiveMessage : List ℕ → ℕ → ℕ → ℕ → ℕ → List ℕ → Type 0
+GiveMessage buf start end number = Holds (messageWords (messageTold (messagePacket buf start end number)))
+
+-- ch11_read_recording(buf, start, end, recording)
+abbrev pub ReadRecording : List ℕ → ℕ → ℕ → ℕ → List ℕ → Type 0
+ReadRecording buf start end = Holds (recordingWords (readRecording buf start end))
+
+-- ---- the writer
+
+-- ch11_write_packet(fields, body, out, written): the output at entry; then the number, the struct and the output at exit
+abbrev pub WritePacket : List ℕ → List ℕ → List ℕ → ℕ → List ℕ → List ℕ → Type 0
+WritePacket fields body out₀ r written out₁ =
+    Holds (writtenWords (writeTold (writeGiven (fieldsOf fields) body (length out₀)))) r written
+    × (out₁ ≡ outAfter (writeGiven (fieldsOf fields) body (length out₀)) out₀ (packetBytes (fieldsOf fields) body))
+
+-- ---- the builder: the state and the buffer at entry; then the number, the state and the buffer at exit
+
+-- ch11_open(draft, buf, type, rule)
+abbrev pub Open : List ℕ → List ℕ → ℕ → ℕ → ℕ → List ℕ → List ℕ → Type 0
+Open draft₀ buf₀ kind rule r draft₁ buf₁ =
+    Holds (draftWords (Build·told (openStep (draftOf draft₀) kind rule (length buf₀)))) r draft₁
+    × (buf₁ ≡ bufAfter (openStep (draftOf draft₀) kind rule (length buf₀)) buf₀ 0 (bytesOf 4 (openWord kind rule)))
+
+-- ch11_add(draft, buf, time, upper, bytes)
+abbrev pub Add : List ℕ → List ℕ → ℕ → ℕ → List ℕ → ℕ → List ℕ → List ℕ → Type 0
+Add draft₀ buf₀ time upper bytes r draft₁ buf₁ =
+    Holds (draftWords (Build·told (addGiven (draftOf draft₀) (length buf₀) time upper (length bytes)))) r draft₁
+    × (buf₁ ≡ bufAfter (addGiven (draftOf draft₀) (length buf₀) time upper (length bytes)) buf₀ (draftOf draft₀ .used)
+    (blockBytes (stamped (draftOf draft₀ .rule)) (entryOf time upper bytes)))
+
+-- ch11_close(draft, buf)
+abbrev pub Close : List ℕ → List ℕ → ℕ → List ℕ → List ℕ → Type 0
+Close draft₀ buf₀ r draft₁ buf₁ =
+    Holds (draftWords (Build·told (closeStep (draftOf draft₀) (length buf₀)))) r draft₁
+    × (buf₁ ≡ bufAfter (closeStep (draftOf draft₀) (length buf₀)) buf₀ 0 (counterBytes (draftOf draft₀)))

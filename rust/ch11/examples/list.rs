@@ -1,0 +1,36 @@
+//! Lists a recording: channel, type and length of each packet, and the messages in it.
+//!
+//! Use: `list FILE`
+
+use std::error::Error;
+use std::process::ExitCode;
+
+/// Prints the packets of a recording up to the first that is refused.
+fn list(recording: &[u8]) -> Result<(), ch11::Refusal> {
+    let end = recording.len();
+    for packet in ch11::packets(recording, 0, end) {
+        let packet = packet?;
+        let (channel, kind, length) = (packet.fields.channel, packet.fields.kind, packet.length);
+        println!("channel {channel} type {kind:#04x} length {length}");
+        for message in ch11::messages(recording, packet.header.at, end)? {
+            println!("  {}", message.escape_ascii());
+        }
+    }
+    Ok(())
+}
+
+fn run() -> Result<(), Box<dyn Error>> {
+    let path = std::env::args_os().nth(1).ok_or("use: list FILE")?;
+    list(&std::fs::read(path)?)?;
+    Ok(())
+}
+
+fn main() -> ExitCode {
+    match run() {
+        Ok(()) => ExitCode::SUCCESS,
+        Err(error) => {
+            eprintln!("{error}");
+            ExitCode::FAILURE
+        }
+    }
+}

@@ -1,0 +1,45 @@
+//! The two packets that the tests are made of. Every number that is expected of them was worked out
+//! by hand from the rules of document 01, not taken from the library.
+
+/// Case L of document 01: a UART packet of 40 bytes with one message, "ABC".
+pub const L: [u8; 40] = [
+    0x25, 0xEB, 0x01, 0x00, 0x28, 0x00, 0x00, 0x00, // sync, channel 1, P = 40
+    0x0C, 0x00, 0x00, 0x00, 0x06, 0x00, 0x02,
+    0x50, // D = 12, version 6, sequence 0, flags, type
+    0x01, 0x00, 0x00, 0x00, 0x00, 0x00, 0x63, 0x3B, // RTC 1, header sum
+    0x00, 0x00, 0x00, 0x00, 0x03, 0x00, 0x00, 0x00, // channel word without times, ID word
+    b'A', b'B', b'C', 0x00, 0x00, 0x00, 0x87, 0x42, // bytes, pad, filler of 2, sum of 2
+];
+
+/// Case M, whose fields are as different from each other as can be: a message packet of 80 bytes
+/// with secondary header, absolute IEEE 1588 times, two messages, filler and a 32-bit sum.
+pub const M: [u8; 80] = [
+    0x25, 0xEB, 0x34, 0x12, 0x50, 0x00, 0x00, 0x00, // sync, channel 0x1234, P = 80
+    0x26, 0x00, 0x00, 0x00, 0x05, 0xC9, 0xC7, 0x30, // D = 38, version, sequence, flags, type
+    0x0F, 0x0E, 0x0D, 0x0C, 0x0B, 0x0A, 0xC2, 0x1B, // RTC, header sum
+    0x07, 0x06, 0x05, 0x04, 0x03, 0x02, 0x01, 0x00, // secondary time: low, high
+    0x00, 0x00, 0x10, 0x0C, 0x02, 0x00, 0x00, 0x00, // reserved, secondary sum; channel word
+    0x20, 0x00, 0x00, 0x00, 0x10, 0x00, 0x00, 0x00, // block 0 at 40: time
+    0x03, 0x00, 0xCD, 0xAB, b'a', b'b', b'c', 0x00, // ID word, bytes at 52, pad
+    0x21, 0x00, 0x00, 0x00, 0x11, 0x00, 0x00, 0x00, // block 1 at 56: time
+    0x05, 0x00, 0x76, 0x98, b'v', b'w', b'x', b'y', // ID word, bytes at 68
+    b'z', 0x00, 0x00, 0x00, 0xBD, 0xDA, 0x1E, 0xBE, // last byte, pad; filler of 2, sum of 4
+];
+
+/// The place of M in `recording()`.
+pub const M_AT: usize = 100;
+
+/// The end of the third packet in `recording()`.
+pub const FILLED: usize = 260;
+
+/// 100 bytes that are no packet, M at 100, L at 180, L at 220, then from 260 an L whose data sum is
+/// wrong.
+pub fn recording() -> Vec<u8> {
+    let mut buf = vec![0xEE; M_AT];
+    buf.extend(M);
+    buf.extend(L);
+    buf.extend(L);
+    buf.extend(L);
+    buf[FILLED + 32] = 0x40;
+    buf
+}

@@ -1,0 +1,319 @@
+//! What the safe calls promise beyond the values that `case_l.rs` checks.
+
+mod cases;
+
+use cases::{recording, FILLED, L, M, M_AT};
+use ch11::{Draft, Fields, Part, Reason, Recording, Refusal, TimeRule, MESSAGE, UART};
+
+const M_FIELDS: Fields = Fields {
+    channel: 0x1234,
+    version: 5,
+    sequence: 0xC9,
+    flags: 0xC7,
+    kind: MESSAGE,
+    rtc: 0x0A0B_0C0D_0E0F,
+    time: 0x0001_0203_0405_0607,
+};
+
+fn refusal(reason: Reason, place: usize, room: usize) -> Refusal {
+    Refusal {
+        reason,
+        place,
+        room,
+    }
+}
+
+#[test]
+fn every_field_of_a_packet() {
+    let buf = recording();
+    let packet = ch11::read_packet(&buf, M_AT, FILLED).unwrap();
+    let part = |at, length| Part { at, length };
+    let want = ch11::Packet {
+        fields: M_FIELDS,
+        length: 80,
+        data_length: 38,
+        header_sum: 0x1BC2,
+        data_sum: 0xBE1E_DABD,
+        header: part(100, 24),
+        secondary: part(124, 12),
+        body: part(136, 38),
+        filler: part(174, 2),
+        sum: part(176, 4),
+    };
+    assert_eq!(packet, want);
+    assert_eq!(buf[packet.body.range()], M[36..74]);
+
+    let mut out = [0; 80];
+    let body = &buf[packet.body.range()];
+    assert_eq!(ch11::write_packet(&packet.fields, body, &mut out), Ok(80));
+    assert_eq!(out, M);
+}
+
+#[test]
+fn window_outside_the_buffer() {
+    let outside = [
+        (50, 60),
+        (0, 41),
+        (41, 41),
+        (2, 1),
+        (usize::MAX, usize::MAX),
+        (0, usize::MAX),
+    ];
+    for (start, end) in outside {
+        let refused = refusal(Reason::State, start, 0);
+        assert_eq!(ch11::read_packet(&L, start, end), Err(refused));
+        let items: Vec<_> = ch11::packets(&L, start, end).collect();
+        assert_eq!(items, [Err(refused)]);
+        assert_eq!(ch11::message_count(&L, start, end), Err(refused));
+        assert_eq!(ch11::messages(&L, start, end).err(), Some(refused));
+        assert_eq!(ch11::message(&L, start, end, 0), Err(refused));
+        assert_eq!(ch11::read_recording(&L, start, end).refusal, Some(refused));
+    }
+}
+
+#[test]
+fn packets_end_at_the_exact_end() {
+    let buf = recording();
+    let mut packets = ch11::packets(&buf, M_AT, FILLED);
+    let starts: Vec<_> = packets
+        .by_ref()
+        .map(|packet| packet.unwrap().header.at)
+        .collect();
+    assert_eq!(starts, [100, 180, 220]);
+    assert!(packets.next().is_none());
+
+    for at in [0, 40] {
+        assert!(ch11::packets(&L, at, at).next().is_none());
+    }
+    assert!(ch11::packets(&[], 0, 0).next().is_none());
+}
+
+#[test]
+fn packets_end_at_the_first_refusal() {
+    let buf = recording();
+    let mut packets = ch11::packets(&buf, M_AT, buf.len());
+    assert_eq!(packets.by_ref().take(3).filter(Result::is_ok).count(), 3);
+    assert_eq!(packets.next(), Some(Err(refusal(Reason::DataSum, 260, 0))));
+    assert!(packets.next().is_none() && packets.next().is_none());
+
+    let cut = ch11::packets(&buf, M_AT, FILLED - 1).last();
+    assert_eq!(cut, Some(Err(refusal(Reason::Cut, 220, 0))));
+}
+
+#[test]
+fn recording_and_packets_agree() {
+    let buf = recording();
+    for end in M_AT..=buf.len() {
+        let items: Vec<_> = ch11::packets(&buf, M_AT, end).collect();
+        let accepted = items.iter().flatten().count();
+        let covered: usize = items.iter().flatten().map(|packet| packet.length).sum();
+        let refusal = items.last().and_then(|item| item.err());
+        let want = Recording {
+            accepted,
+            reached: M_AT + covered,
+            refusal,
+        };
+        assert_eq!(ch11::read_recording(&buf, M_AT, end), want);
+    }
+}
+
+#[test]
+fn leftovers_are_not_seen() {
+    let (mut buf, clean) = ([L, L].concat(), L);
+    buf[40..].fill(0x25);
+    assert_eq!(
+        ch11::read_packet(&buf, 0, 40),
+        ch11::read_packet(&clean, 0, 40)
+    );
+    assert_eq!(
+        ch11::read_recording(&buf, 0, 40),
+        ch11::read_recording(&clean, 0, 40)
+    );
+    assert_eq!(ch11::packets(&buf, 0, 40).count(), 1);
+    let cut = refusal(Reason::Cut, 0, 0);
+    assert_eq!(ch11::read_packet(&buf, 0, 39), Err(cut));
+    assert_eq!(ch11::messages(&buf, 0, 39).err(), Some(cut));
+}
+
+#[test]
+fn messages_of_a_packet() {
+    let buf = recording();
+    let messages = ch11::messages(&buf, M_AT, FILLED).unwrap();
+    assert_eq!(messages.len(), 2);
+    assert_eq!(messages.collect::<Vec<_>>(), [&b"abc"[..], b"vwxyz"]);
+    assert_eq!(ch11::message_count(&buf, M_AT, FILLED), Ok(2));
+
+    let last = ch11::message(&buf, M_AT, FILLED, 1).unwrap();
+    assert_eq!((last.time, last.id), (0x11_0000_0021, 0x9876_0005));
+    assert_eq!((last.start, last.bytes), (68, &b"vwxyz"[..]));
+    let none = ch11::message(&buf, M_AT, FILLED, 2);
+    assert_eq!(none, Err(refusal(Reason::Range, 100, 0)));
+
+    let (mut starts, mut lengths) = ([7; 3], [9; 2]);
+    let count = ch11::list_messages(&buf, M_AT, FILLED, &mut starts, &mut lengths);
+    assert_eq!((count, starts, lengths), (Ok(2), [52, 68, 7], [3, 5]));
+    let count = ch11::list_messages(&buf, M_AT, FILLED, &mut starts, &mut lengths[..1]);
+    assert_eq!(count, Err(refusal(Reason::Room, 100, 2)));
+}
+
+#[test]
+fn type_that_is_not_opened() {
+    let fields = Fields {
+        channel: 3,
+        version: 1,
+        kind: 0x40,
+        ..Fields::default()
+    };
+    let mut out = [0; 28];
+    assert_eq!(ch11::write_packet(&fields, b"body", &mut out), Ok(28));
+    assert_eq!(ch11::message_count(&out, 0, 28), Ok(0));
+    assert_eq!(ch11::messages(&out, 0, 28).unwrap().next(), None);
+    assert_eq!(
+        ch11::message(&out, 0, 28, 0),
+        Err(refusal(Reason::Range, 0, 0))
+    );
+}
+
+#[test]
+fn writer_refusals() {
+    let write = |fields: Fields, body: &[u8], room: usize| {
+        let mut out = vec![0xEE; room];
+        let refused = ch11::write_packet(&fields, body, &mut out).unwrap_err();
+        assert_eq!(out, vec![0xEE; room]);
+        refused
+    };
+    let body = &M[36..74];
+    let late = Fields {
+        rtc: 1 << 48,
+        ..M_FIELDS
+    };
+    assert_eq!(write(late, body, 80), refusal(Reason::Range, 0, 0));
+    assert_eq!(
+        write(
+            Fields {
+                version: 10,
+                ..M_FIELDS
+            },
+            body,
+            80
+        ),
+        refusal(Reason::Version, 0, 0)
+    );
+    assert_eq!(
+        write(M_FIELDS, &body[1..], 80),
+        refusal(Reason::Layout, 0, 0)
+    );
+    assert_eq!(write(M_FIELDS, &[], 80), refusal(Reason::Length, 0, 0));
+    assert_eq!(write(M_FIELDS, body, 0), refusal(Reason::Room, 0, 80));
+}
+
+#[test]
+fn body_built_in_a_growing_buffer() {
+    let mut buf = vec![0; 20];
+    let draft = Draft::new()
+        .open(&mut buf, MESSAGE, TimeRule::Ieee1588)
+        .unwrap();
+    let draft = draft.add(&mut buf, 0x10_0000_0020, 0xABCD, b"abc").unwrap();
+    let denied = draft
+        .add(&mut buf, 0x11_0000_0021, 0x9876, b"vwxyz")
+        .unwrap_err();
+    assert_eq!(denied.refusal, refusal(Reason::Room, 0, 38));
+    assert_eq!((denied.draft.used(), denied.draft.blocks()), (20, 1));
+
+    buf.resize(denied.refusal.room, 0);
+    let draft = denied
+        .draft
+        .add(&mut buf, 0x11_0000_0021, 0x9876, b"vwxyz")
+        .unwrap();
+    assert_eq!((draft.used(), draft.blocks()), (38, 2));
+    assert_eq!(draft.close(&mut buf), Ok(38));
+    assert_eq!(buf, M[36..74]);
+}
+
+#[test]
+fn refused_steps_hand_back_the_state() {
+    let mut buf = [0; 12];
+    let denied = Draft::new()
+        .open(&mut buf, MESSAGE, TimeRule::None)
+        .unwrap_err();
+    assert_eq!(
+        (denied.refusal.reason, &denied.draft),
+        (Reason::Range, &Draft::new())
+    );
+    let draft = denied.draft.open(&mut buf, UART, TimeRule::None).unwrap();
+    let denied = draft.close(&mut buf).unwrap_err();
+    assert_eq!(
+        (denied.refusal.reason, denied.draft.used()),
+        (Reason::Layout, 4)
+    );
+    let denied = denied.draft.add(&mut buf, 1, 0, b"ABC").unwrap_err();
+    assert_eq!(
+        (denied.refusal.reason, denied.draft.used()),
+        (Reason::Range, 4)
+    );
+    let draft = denied.draft.add(&mut buf, 0, 0, b"ABC").unwrap();
+    assert_eq!(draft.close(&mut buf), Ok(12));
+    assert_eq!(buf, L[24..36]);
+}
+
+#[test]
+fn time_rules() {
+    let add = |rule, time| {
+        let mut buf = [0; 32];
+        let draft = Draft::new().open(&mut buf, UART, rule).unwrap();
+        draft
+            .add(&mut buf, time, 0, b"a")
+            .map_err(|denied| denied.refusal.reason)
+            .err()
+    };
+    let layout = Some(Reason::Layout);
+    assert_eq!(
+        (
+            add(TimeRule::Counter, (1 << 48) - 1),
+            add(TimeRule::Counter, 1 << 48)
+        ),
+        (None, layout)
+    );
+    assert_eq!(
+        (add(TimeRule::Chapter4, 1 << 16), add(TimeRule::Chapter4, 1)),
+        (None, layout)
+    );
+    let in_form = (
+        add(TimeRule::Ieee1588, 999_999_999),
+        add(TimeRule::Ieee1588, 1_000_000_000),
+    );
+    assert_eq!(in_form, (None, layout));
+    assert_eq!(
+        (add(TimeRule::Extended, u64::MAX), add(TimeRule::None, 0)),
+        (None, None)
+    );
+}
+
+#[test]
+fn numbers_and_words() {
+    for number in 1..=17 {
+        let reason = Reason::from_number(number);
+        assert_eq!(reason.number(), number);
+        assert_ne!(reason, Reason::Other(number));
+    }
+    assert_eq!((Reason::State.number(), Reason::DataSum.number()), (1, 13));
+    assert_eq!((Reason::Room.number(), Reason::Range.number()), (16, 17));
+    assert_eq!(Reason::from_number(18), Reason::Other(18));
+
+    let words = |refusal: Refusal| refusal.to_string();
+    let wrong_sum = refusal(Reason::DataSum, 40, 0);
+    assert_eq!(
+        words(wrong_sum),
+        "refused with 13 at byte 40: wrong data sum"
+    );
+    let no_room = refusal(Reason::Room, 0, 80);
+    assert_eq!(
+        words(no_room),
+        "refused with 16 at byte 0: no room in a list or output (80 needed)"
+    );
+
+    let denied = Draft::new().close(&mut []).unwrap_err();
+    assert_eq!(denied.to_string(), denied.refusal.to_string());
+    let boxed: Box<dyn std::error::Error> = Box::new(denied);
+    assert!(boxed.to_string().starts_with("refused with 1 at byte 0: "));
+}
