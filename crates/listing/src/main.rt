@@ -1,5 +1,10 @@
 // Lists the packets of a recording on standard input, up to 65,536 bytes (document 01, "The listing program"): fourteen lines for
 // each accepted packet, then the number of packets, the bytes that they cover, and the refusal that ended the reading, or 0.
+ghost use mathlib.Core.Path.{_≡_};
+ghost use Rattle.packet.specs.Read.{window, readPacket};
+ghost use Rattle.packet.specs.Messages.{messageCount};
+ghost use Rattle.packet.specs.declared.Packet.{Packet};
+ghost use Rattle.packet.specs.declared.PacketRead.the-variants.{Accepted};
 use frame::Fields;
 use packet::Packet;
 use packet::PacketList;
@@ -48,7 +53,9 @@ fn show_end(recording: Recording) {
 
 // How many messages the packet at `at` has, 0 if its type isn't opened. The lists lent have no entries: where there are messages,
 // their number is the room that the lister asks for, so that no list here can be too short.
-fn message_count(buf: &[u8], at: usize, end: usize) -> usize {
+fn message_count(buf: &[u8], at: usize, end: usize) -> usize
+    ensures { λ r. ⌜ ((p : Packet) → readPacket (now (buf .entry)) at end ≡ Accepted p → r ≡ messageCount (window (now (buf .entry)) at end)) ⌝ }
+{
     let mut starts = [0u32; 1];
     let mut lengths = [0u32; 1];
     match list_messages(buf, at, end, &mut starts[..0], &mut lengths[..0]) {

@@ -1,0 +1,114 @@
+//! The second program's answers, put into the structs of the C interface: "A refusal returns its number and place; all other results
+//! are zero", save what is said there.
+
+use ch11::raw::*;
+use generate::recipe::Placed;
+use second::{Draft as State, Fields as Given};
+
+/// A struct made of another's fields of the same names.
+macro_rules! same {
+    ($from:expr => $into:ident: $($field:ident)+) => {
+        $into { $($field: $from.$field),+ }
+    };
+}
+
+/// An answer without a refusal: these fields, copied from another struct; the others are zero.
+macro_rules! accepted {
+    ($from:expr => $into:ident: $($field:ident)+) => {
+        (0, $into { $($field: $from.$field,)+ ..$into::default() })
+    };
+}
+
+/// An answer with this refusal, otherwise zero.
+macro_rules! refused {
+    ($refusal:expr => $into:ident) => {
+        (
+            $refusal.number,
+            $into {
+                refusal: refusal($refusal),
+                ..$into::default()
+            },
+        )
+    };
+}
+
+fn refusal(from: second::Refusal) -> Refusal {
+    same!(from => Refusal: number place room)
+}
+
+fn part(from: second::Part) -> Part {
+    same!(from => Part: at length)
+}
+
+fn packet(from: second::Packet) -> (u64, Packet) {
+    let (number, mut packet) = accepted!(from => Packet: length data_length header_sum data_sum);
+    packet.fields = same!(from.fields => Fields: channel version sequence flags kind rtc time);
+    packet.header = part(from.header);
+    packet.secondary = part(from.secondary);
+    packet.body = part(from.body);
+    packet.filler = part(from.filler);
+    packet.sum = part(from.sum);
+    (number, packet)
+}
+
+pub fn read_packet(w: &Placed) -> (u64, Packet) {
+    match second::read_packet(&w.buf, w.start, w.end) {
+        Ok(from) => packet(from),
+        Err(no) => refused!(no => Packet),
+    }
+}
+
+pub fn list_messages(w: &Placed, starts: &mut [u32], lengths: &mut [u32]) -> (u64, List) {
+    let mut list = List::default();
+    match second::list_messages(&w.buf, w.start, w.end, starts, lengths) {
+        Ok(count) => list.count = count,
+        Err(no) => return refused!(no => List),
+    }
+    (0, list)
+}
+
+pub fn message(w: &Placed, number: usize) -> (u64, Message) {
+    match second::message(&w.buf, w.start, w.end, number) {
+        Ok(from) => accepted!(from => Message: time id start length),
+        Err(no) => refused!(no => Message),
+    }
+}
+
+pub fn read_recording(w: &Placed) -> (u64, Recording) {
+    let from = second::read_recording(&w.buf, w.start, w.end);
+    let (_, mut recording) = accepted!(from => Recording: accepted reached);
+    recording.refusal = refusal(from.refusal);
+    (from.refusal.number, recording)
+}
+
+pub fn write_packet(fields: &Fields, body: &[u8], out: &mut [u8]) -> (u64, Written) {
+    let fields = same!(fields => Given: channel version sequence flags kind rtc time);
+    let mut written = Written::default();
+    match second::write_packet(&fields, body, out) {
+        Ok(length) => written.length = length,
+        Err(no) => return refused!(no => Written),
+    }
+    (0, written)
+}
+
+fn state(from: Draft) -> State {
+    same!(from => State: used blocks kind rule)
+}
+
+fn step((no, from): (second::Refusal, State)) -> (u64, Draft) {
+    let (_, mut draft) = accepted!(from => Draft: used blocks kind rule);
+    draft.refusal = refusal(no);
+    (no.number, draft)
+}
+
+pub fn open(draft: Draft, buf: &mut [u8], kind: u64, rule: u64) -> (u64, Draft) {
+    step(second::open(state(draft), buf, kind, rule))
+}
+
+pub fn add(draft: Draft, buf: &mut [u8], time: u64, upper: u64, bytes: &[u8]) -> (u64, Draft) {
+    step(second::add(state(draft), buf, time, upper, bytes))
+}
+
+pub fn close(draft: Draft, buf: &mut [u8]) -> (u64, Draft) {
+    step(second::close(state(draft), buf))
+}

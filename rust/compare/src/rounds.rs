@@ -1,0 +1,187 @@
+//! Rounds by chance: each makes one input and compares the calls on it.
+
+use crate::check::{self, Step};
+use crate::library;
+use crate::systematic::{KINDS, RULES};
+use crate::tally::Tally;
+use ch11::raw::{Draft, Fields};
+use generate::causes::{causes, with_faults};
+use generate::opened::{some_n, MESSAGE, UART};
+use generate::random::Random;
+use generate::recipe::{time_in_form, time_out_of_form, Placed, Recipe};
+use generate::recording::{chance_recipe, packet_of_length, recording, some_faults};
+
+pub fn round(tally: &mut Tally, random: &mut Random) {
+    match random.below(16) {
+        0..=1 => packet(tally, random, |random| Recipe::any(random)),
+        2..=3 => packet(tally, random, |random| {
+            let faults = some_faults(random, &causes(false));
+            with_faults(random, &faults).0
+        }),
+        4..=7 => packet(tally, random, chance_recipe),
+        8 => altered(tally, random),
+        9 => windows(tally, random),
+        10..=11 => recordings(tally, random),
+        12..=13 => writer(tally, random),
+        14 if random.one_in(100) => large(tally, random),
+        _ => builder(tally, random),
+    }
+}
+
+/// All readers on a window; what is accepted is written again; now and then the window is moved.
+fn readers(tally: &mut Tally, random: &mut Random, window: &Placed) {
+    let (number, packet) = check::window(tally, random, window);
+    if number == 0 {
+        check::write_again(tally, window, &packet, random.index(9));
+    }
+    if random.one_in(4) {
+        check::elsewhere(tally, random, window);
+    }
+}
+
+fn packet(tally: &mut Tally, random: &mut Random, make: fn(&mut Random) -> Recipe) {
+    let window = make(random).placed(random);
+    readers(tally, random, &window);
+}
+
+/// A sound packet with some bytes changed and no sum made right again.
+fn altered(tally: &mut Tally, random: &mut Random) {
+    let mut window = Recipe::any(random).placed(random);
+    for _ in 0..1 + random.below(2) {
+        let at = random.index(window.buf.len());
+        window.buf[at] = random.bits() as u8;
+    }
+    readers(tally, random, &window);
+}
+
+/// A window of any start and end, also outside its buffer.
+fn windows(tally: &mut Tally, random: &mut Random) {
+    let mut window = Recipe::any(random).placed(random);
+    let mut near = |place: usize| match random.below(4) {
+        0 => place.wrapping_add(random.index(5)).wrapping_sub(2),
+        1 => random.index(window.buf.len() + 4),
+        2 => random.wide() as usize,
+        _ => place,
+    };
+    (window.start, window.end) = (near(window.start), near(window.end));
+    readers(tally, random, &window);
+}
+
+/// A recording somewhere in a buffer, read as a whole and packet by packet.
+fn recordings(tally: &mut Tally, random: &mut Random) {
+    let most = random.choose(&[1, 4, 10, 36]);
+    let packets = recording(random, most);
+    let start = random.index(7);
+    let mut window = Placed::whole(packets).elsewhere(random, start);
+    check::recording(tally, &window);
+    if random.one_in(4) {
+        check::elsewhere(tally, random, &window);
+    }
+    while let (0, packet) = check::window(tally, random, &window) {
+        window.start += packet.length as usize;
+    }
+}
+
+/// The writer on sound and faulty fields and bodies, with outputs around what is needed.
+fn writer(tally: &mut Tally, random: &mut Random) {
+    let faults = some_faults(random, &causes(true));
+    let mut recipe = with_faults(random, &faults).0;
+    if random.one_in(3) {
+        recipe = chance_recipe(random);
+    }
+    let mut fields = check::fields_of(&recipe);
+    if random.one_in(4) {
+        let Fields {
+            channel,
+            version,
+            sequence,
+            flags,
+            kind,
+            rtc,
+            time,
+        } = &mut fields;
+        let all = [channel, version, sequence, flags, kind, rtc, time];
+        *all[random.index(7)] = random.wide();
+    }
+    let length = recipe.right_length();
+    let less = random.index(length);
+    let rooms = [length, length, length + 1 + less % 40, length - 1, less, 0];
+    for _ in 0..3 {
+        check::write(tally, &fields, &recipe.body, random.choose(&rooms));
+    }
+}
+
+/// A packet of up to the longest length.
+fn large(tally: &mut Tally, random: &mut Random) {
+    let length = 28 + 4 * random.index(131_066);
+    let mut window = Placed::whole(packet_of_length(random, length));
+    window.end -= random.index(2);
+    readers(tally, random, &window);
+}
+
+/// A state with one or two fields forged.
+fn forged(random: &mut Random, state: Draft, length: usize) -> Draft {
+    let mut forged = library::draft(state.used, state.blocks, state.kind, state.rule);
+    let wide = random.wide();
+    let length = length as u64;
+    for _ in 0..1 + random.below(2) {
+        match random.below(4) {
+            0 => forged.used = random.choose(&[0, 3, 4, 5, 16, length, length + 1, wide]),
+            1 => forged.blocks = random.choose(&[0, 65_534, 65_535, 65_536, u64::MAX, wide]),
+            2 => forged.kind = random.choose(&KINDS),
+            _ => forged.rule = random.choose(&RULES),
+        }
+    }
+    forged
+}
+
+/// A block to add: mostly a good one for the rule.
+fn some_block(random: &mut Random, rule: u64) -> Step {
+    let (good, bad) = (time_in_form(random, rule), time_out_of_form(random, rule));
+    let n = some_n(random);
+    let n = random.choose(&[n, n, n, n, n, n, n, 0]);
+    let time = random.choose(&[good, good, good, good, good, good, bad]);
+    let upper = random.choose(&[0, 1, 0x4000, 0x8000, 0xFFFF, 0xABCD, 0, 0x1_0000]);
+    Step::Add(time, upper, random.bytes(n))
+}
+
+/// A walk of opening, adding and closing, in which a state is forged now and then; a body closed without that is written and read.
+fn builder(tally: &mut Tally, random: &mut Random) {
+    let kind = random.choose(&[MESSAGE, UART]);
+    let lowest = if kind == MESSAGE { 1 } else { 0 };
+    let rule = lowest + random.below(5 - lowest);
+    let room = random.choose(&[3, 4, 30, 100, 400]) + random.index(40);
+    let buf = random.bytes(room);
+    let (draft, open) = (library::draft(0, 0, 0, 0), Step::Open(kind, rule));
+    let (_, mut draft, mut buf) = check::step(tally, draft, &buf, &open);
+    let forging = random.one_in(2);
+    for _ in 0..random.below(9) {
+        if forging && random.one_in(3) {
+            draft = forged(random, draft, buf.len());
+        }
+        let block = some_block(random, draft.rule);
+        (_, draft, buf) = check::step(tally, draft, &buf, &block);
+    }
+    let (number, draft, buf) = check::step(tally, draft, &buf, &Step::Close);
+    if number == 0 && !forging {
+        built(tally, random, &draft, &buf[..draft.used as usize]);
+    }
+}
+
+/// A body that was built is accepted by the writer, and "reads back [...] as the blocks added".
+fn built(tally: &mut Tally, random: &mut Random, draft: &Draft, body: &[u8]) {
+    let format = draft.rule.saturating_sub(2) << 2;
+    let flags = if draft.rule < 2 { 0 } else { 0xC0 | format } | random.below(4);
+    let mut recipe = Recipe::sound(random, draft.kind, flags);
+    recipe.body = body.to_vec();
+    check::write_recipe(tally, &recipe, recipe.right_length());
+    let window = recipe.placed(random);
+    readers(tally, random, &window);
+    let listed = check::messages_in(&window) as u64;
+    tally.require(
+        "blocks added",
+        &|| format!("{:?}", draft),
+        &listed,
+        &draft.blocks,
+    );
+}

@@ -1,0 +1,135 @@
+//! Counts the comparisons, prints the differences, and tells what was covered.
+
+use generate::recipe::{legal_flags, TYPES};
+use std::collections::BTreeSet;
+use std::fmt::Debug;
+use std::process::exit;
+
+/// A call of the C interface: its place in the tally, its name, and the numbers that it can return.
+pub struct Call(usize, &'static str, &'static [u64]);
+
+const TO_15: &[u64] = &[0, 1, 2, 3, 4, 5, 6, 7, 8, 9, 10, 11, 12, 13, 14, 15];
+const TO_16: &[u64] = &[0, 1, 2, 3, 4, 5, 6, 7, 8, 9, 10, 11, 12, 13, 14, 15, 16];
+const TO_15_AND_17: &[u64] = &[0, 1, 2, 3, 4, 5, 6, 7, 8, 9, 10, 11, 12, 13, 14, 15, 17];
+
+pub static READ: Call = Call(0, "ch11_read_packet", TO_15);
+pub static LIST: Call = Call(1, "ch11_list_messages", TO_16);
+pub static MESSAGE: Call = Call(2, "ch11_message", TO_15_AND_17);
+pub static RECORDING: Call = Call(3, "ch11_read_recording", TO_15);
+pub static WRITE: Call = Call(4, "ch11_write_packet", &[0, 5, 6, 7, 8, 9, 12, 15, 16, 17]);
+pub static OPEN: Call = Call(5, "ch11_open", &[0, 16, 17]);
+pub static ADD: Call = Call(6, "ch11_add", &[0, 1, 15, 16, 17]);
+pub static CLOSE: Call = Call(7, "ch11_close", &[0, 1, 15]);
+
+static CALLS: [&Call; 8] = [
+    &READ, &LIST, &MESSAGE, &RECORDING, &WRITE, &OPEN, &ADD, &CLOSE,
+];
+
+/// Describes a call's input, where it is asked for.
+type Input<'a> = &'a dyn Fn() -> String;
+
+/// After so many differences the program stops.
+const MOST_DIFFERENCES: u64 = 10;
+
+#[derive(Default)]
+pub struct Tally {
+    /// How often each call returned each number.
+    returned: [[u64; 18]; 8],
+    /// Types and flags of the packets that the reader accepted.
+    types: BTreeSet<u64>,
+    flags: BTreeSet<u64>,
+    differences: u64,
+}
+
+impl Tally {
+    /// Comparisons so far.
+    pub fn calls(&self) -> u64 {
+        self.returned.iter().flatten().sum()
+    }
+
+    /// Counts a call by the number that it returned, and compares its answer with the expected one.
+    pub fn compare<A>(&mut self, call: &Call, input: Input, library: &(u64, A), wanted: &(u64, A))
+    where
+        A: PartialEq + Debug,
+    {
+        let Call(index, name, numbers) = call;
+        let possible = numbers.contains(&library.0);
+        if possible {
+            self.returned[*index][library.0 as usize] += 1;
+        }
+        if library != wanted || !possible {
+            self.differs(name, &input(), library, wanted);
+        }
+    }
+
+    /// Compares without counting: a property that is no call of its own.
+    pub fn require<A: PartialEq + Debug>(&mut self, what: &str, input: Input, got: &A, wanted: &A) {
+        if got != wanted {
+            self.differs(what, &input(), got, wanted);
+        }
+    }
+
+    fn differs<A: Debug>(&mut self, what: &str, input: &str, library: &A, expected: &A) {
+        self.differences += 1;
+        let (library, expected) = (format!("{:?}", library), format!("{:?}", expected));
+        let pairs = library.bytes().zip(expected.bytes());
+        let first = pairs.take_while(|(a, b)| a == b).count();
+        println!("difference {} in {}", self.differences, what);
+        println!("  input:    {}", input);
+        println!("  library:  {}", around(&library, first));
+        println!("  expected: {}", around(&expected, first));
+        if self.differences == MOST_DIFFERENCES {
+            println!("stopped after {} differences", MOST_DIFFERENCES);
+            exit(1);
+        }
+    }
+
+    /// Notes the type and flags of an accepted packet.
+    pub fn accepted(&mut self, kind: u64, flags: u64) {
+        self.types.insert(kind);
+        self.flags.insert(flags);
+    }
+
+    /// Prints what was covered and answers whether nothing is missing and nothing differs.
+    pub fn report(&self) -> bool {
+        let mut missing = 0;
+        for Call(index, name, numbers) in CALLS {
+            let counts = &self.returned[*index];
+            print!("{}: {} calls;", name, counts.iter().sum::<u64>());
+            for number in *numbers {
+                print!(" {}:{}", number, counts[*number as usize]);
+                missing += u64::from(counts[*number as usize] == 0);
+            }
+            println!();
+        }
+        let all_types = TYPES.iter().all(|kind| self.types.contains(kind));
+        let all_flags = legal_flags().iter().all(|flags| self.flags.contains(flags));
+        let (types, flags) = (self.types.len(), self.flags.len());
+        println!(
+            "accepted types: {} of 35; accepted flags: {} of 144",
+            types, flags
+        );
+        println!("returned numbers never met: {}", missing);
+        let (calls, differences) = (in_thousands(self.calls()), self.differences);
+        println!("compared {} calls, {} differences", calls, differences);
+        missing == 0 && all_types && all_flags && differences == 0
+    }
+}
+
+/// The part of a long text around its byte `first`; these texts are ASCII.
+fn around(text: &str, first: usize) -> String {
+    if text.len() <= 1200 {
+        return text.to_string();
+    }
+    let from = first.saturating_sub(300);
+    let to = (first + 300).min(text.len());
+    format!("... (from {}) {} ...", from, &text[from..to])
+}
+
+/// A number with commas: 100,123.
+fn in_thousands(number: u64) -> String {
+    if number < 1000 {
+        return number.to_string();
+    }
+    format!("{},{:03}", in_thousands(number / 1000), number % 1000)
+}

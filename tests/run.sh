@@ -1,0 +1,48 @@
+#!/usr/bin/env bash
+# The tests beside rt's: the C interface from C and from Rust, the samples, and the comparison with the second program.
+# Usage: bash tests/run.sh [CALLS]: compares at least so many calls (100,000). Installs what it needs (Debian packages), and proves and
+# builds the library and the listing program where that is not done yet.
+set -euo pipefail
+cd "$(dirname "$0")/.."
+# shellcheck source=rust/x86.sh
+source rust/x86.sh
+x86_tools
+log=$(mktemp)
+trap 'rm -f "$log"' EXIT
+
+# Runs a command; what it writes is shown only where it fails.
+quietly() {
+    "$@" >"$log" 2>&1 </dev/null || { cat "$log" >&2; echo "failed: $*" >&2; exit 1; }
+}
+
+quietly rt staticlib ch11
+quietly rt check listing
+
+echo "C: every field of every call on case L"
+mkdir -p target/c
+for source in tests/c/case_l.c examples/c/channels.c; do
+    quietly $x86_cc -std=c11 -Wall -Wextra -Werror -pedantic -I include "$source" target/staticlib/libch11.a -o "target/c/$(basename "$source" .c)"
+done
+$x86_runner target/c/case_l
+test "$($x86_runner target/c/channels samples/flight.ch11 | paste -sd' ')" = '0 1 7 9 9 12 20'
+
+cd rust
+echo "Rust: the second program's own tests, the wrapper's, and its examples"
+quietly x86_cargo test --release --quiet -p second -p ch11
+# Debian's cargo leaves doctests out where it builds for another machine, unless told.
+[ -z "$x86_runner" ] || RUSTC_BOOTSTRAP=1 quietly x86_cargo test --release --quiet -p ch11 --doc -Z doctest-xcompile
+mkdir -p ../target/samples
+x86_cargo run --release --quiet -p ch11 --example samples -- ../target/samples
+for sample in flight cut altered; do
+    cmp "../target/samples/$sample.ch11" "../samples/$sample.ch11"
+done
+
+echo "Comparison with the second program: calls"
+x86_cargo build --release --quiet -p compare -p bench
+$x86_runner "$x86_built/compare" "${1:-100000}" | tail -1
+echo "Comparison with the second program: listings"
+(
+    # This one starts the listing program, so it is built for the machine itself.
+    unset CARGO_BUILD_TARGET
+    x86_cargo run --release --quiet -p listings -- 300 $x86_runner ../target/bin/listing
+)
