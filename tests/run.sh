@@ -39,7 +39,10 @@ done
 
 echo "Comparison with the second program: calls"
 x86_cargo build --release --quiet -p compare -p bench
-$x86_runner "$x86_built/compare" "${1:-100000}" | tail -1
+quietly $x86_runner "$x86_built/compare" "${1:-100000}"
+tail -1 "$log"
+echo "Benchmark: library and the same method in Rust agree on its inputs"
+quietly $x86_runner "$x86_built/bench" 1 'a trial'
 echo "Comparison with the second program: listings"
 (
     # This one starts the listing program, so it is built for the machine itself.
