@@ -13,8 +13,8 @@
  * refusal's number, 0 for none; the struct begins with the same number. On a refusal all other results are 0, but for the place, for
  * the room that 16 gives, for the recording's two numbers and for the builder's state; lists, buffers and outputs are then as they were.
  *
- * Pointers must not be null, not even with a length of 0 (which is fine), and must be good for the length given, a struct's for the
- * struct. What a call may write to must not overlap anything else that the same call is lent.
+ * A length may be 0. Pointers must not be null, not even then; they must be aligned for their type and good for the length given, a
+ * struct's for the struct. What a call may write to must not overlap anything else that the same call is lent.
  *
  * For x86-64 Linux: cc -I include program.c libch11.a. The whole of this example is in examples/c/channels.c.
  *
@@ -147,11 +147,11 @@ uint64_t ch11_message(const uint8_t *buf, size_t len, size_t start, size_t end, 
 struct ch11_recording {
     struct ch11_refusal refusal; /* of the packet that ended the reading; 0 at the exact end */
     uint64_t accepted;           /* packets accepted; given with a refusal too */
-    uint64_t reached;            /* the refused packet's first byte, or the end; given with a refusal too */
+    uint64_t reached;            /* the refused packet's first byte (for 1 the start as given), or the end; given with a refusal too */
 };
 
 /* Reads the packets of a window, each at the end of the one before; the first that is refused ends the reading. Refusals 1 to 15. An empty
- * window holds no packets and isn't refused. */
+ * window within its buffer holds no packets and isn't refused. */
 uint64_t ch11_read_recording(const uint8_t *buf, size_t len, size_t start, size_t end, struct ch11_recording *recording);
 
 /* ---- the writer */

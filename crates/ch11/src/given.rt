@@ -79,7 +79,7 @@ fn step_words(step: Step) -> [u64; 7]
     }
 }
 
-// The words of a refused step that hands back the state in these words.
+// The words of a refused step: this refusal, and the state as it was given.
 fn denied_words(f: Refusal, ws: [u64; 7]) -> [u64; 7]
     ensures { λ r. ⌜ r ≡ draftWords (told (Denied f (draftOf ws))) ⌝ }
 {

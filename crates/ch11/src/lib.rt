@@ -56,12 +56,12 @@ pub extern "C" fn ch11_message(
     start: usize,
     end: usize,
     number: usize,
-    given: &mut [u64; 7],
+    found: &mut [u64; 7],
 ) -> u64
-    ensures { λ r. ⌜ GiveMessage (now (buf .entry)) start end number r (now (given .exit)) ⌝ }
+    ensures { λ r. ⌜ GiveMessage (now (buf .entry)) start end number r (now (found .exit)) ⌝ }
 {
-    *given = message_words(message(buf, start, end, number));
-    given[0]
+    *found = message_words(message(buf, start, end, number));
+    found[0]
 }
 
 // Reads the packets of a window: recording::read_recording.

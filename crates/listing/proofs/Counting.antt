@@ -1,10 +1,12 @@
--- The number of messages, from what the lister says with lists of any lengths. Assumes nothing.
+-- What the listing counts: messages, from what the lister says with lists of any lengths; bytes of input. Assumes nothing.
 use mathlib.Core.Path.{_≡_, sym, ap, _∙_}
 use mathlib.Core.List.{List}
 use mathlib.Core.Bool.{Bool, true, false}
-use Prim.Native.Nat.{ℕ, min}
+use Prim.Native.Nat.{ℕ, _+_, _-_, _≤_, min}
 use native.Mathlib.Omega.{arith}
+use lib.ListN.{length}
 use lib.Dec.{ltb}
+use borrow.Rule.Slice.PartMut.{midOf, mid-len}
 use Rattle.units.specs.Choice.{pick}
 use Rattle.body.specs.Walk.{refused}
 use Rattle.body.specs.declared.Refusal.{Refusal}
@@ -35,3 +37,9 @@ module _ (buf : List ℕ) (at end len₁ len₂ : ℕ) (a : PacketList) (says : 
       go : (t : Bool) (m : ℕ) → pick t (Unlisted (refused 16 at m)) (Listed m) ≡ Unlisted r → r .room ≡ m
       go true m q = let same : refused 16 at m ≡ r = cc q in ap (λ (x : Refusal). x .room) (sym same)
       go false m q = let z : _≡_ {A = ℕ} 0 1 = cc in absurd (omega arith)
+
+-- n bytes more, read behind those that fill the room so far, are still in it; as many as `behind` fit there
+pub more-fits : (room : List ℕ) (filled behind n : ℕ) → filled ≤ length room → behind ≡ length (midOf filled (length room - filled) room) → n ≤ behind → filled + n ≤ length room
+more-fits room filled behind n within e h =
+    let size : behind ≡ length room - filled = e ∙ mid-len filled (length room) room (omega arith) in
+    omega (arith, size, within, h)

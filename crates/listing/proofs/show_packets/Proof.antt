@@ -14,18 +14,18 @@ abbrev μ-loop : tie.MeasureT-loop
 
 add-at : tie.Need-add-at Inv-loop μ-loop
 add-at c =
-    let after-read = c .before .before .before .before .before .before in
-    let g = c .before .before .before .before .packet .given in
+    let after-read = c .before .before .before .before .before .before .before in
+    let g = c .before .before .before .before .before .packet .given in
     let k = fits _ _ _ (g .0 .0) (sym (after-read .read-packet .ensures) ∙ g .1) in
     omega (arith, k, after-read .before .before .before .before .fits)
 
 add-number : tie.Need-add-number Inv-loop μ-loop
 add-number c =
-    let after-read = c .before .before .before .before .before .before in
+    let after-read = c .before .before .before .before .before .before .before in
     omega (arith, after-read .before .loop-test .taken, after-read .before .before .before .before .fits)
 
 loop-less : tie.Need-loop-less Inv-loop μ-loop
-loop-less c = omega (arith, c .before .before .before .before .before .before .before .loop-test .taken)
+loop-less c = omega (arith, c .before .before .before .before .before .before .before .before .loop-test .taken)
 
 pub show-packets-spec : {M : Type 1} → statement M
 show-packets-spec =
@@ -40,6 +40,7 @@ show-packets-spec =
     (λ c. search needs)
     (λ c κs. search needs)
     (λ c κs. search needs)
+    (λ c. search needs)
     (λ c. search needs)
     add-at
     add-number
