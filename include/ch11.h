@@ -117,6 +117,13 @@ uint64_t ch11_read_packet(const uint8_t *buf, size_t len, size_t start, size_t e
 
 /* ---- the messages of a packet */
 
+/* An opened body begins with a channel word of 4 bytes (low byte first, as all numbers). Blocks follow, one for each message: a time
+ * stamp of 8 bytes (always in 0x30; in 0x50 if bit 31 of the channel word is set), an ID word of 4 whose bits 15-0 are n, the message's
+ * n bytes, and a zero byte if n is odd. n is at least 1, and a time is in form.
+ * 0x30: bits 31-18 of the channel word are zero. Bits 17-16 are 00: bits 15-0 are the number of blocks, at least 1. 01: one block, and
+ * they are 1. 10 or 11: one block, and they are at least 2.
+ * 0x50: bits 30-0 of the channel word are zero. One or more blocks, to the body's end. */
+
 struct ch11_list {
     struct ch11_refusal refusal;
     uint64_t count; /* messages listed; 0 for a type that isn't opened */

@@ -1,3 +1,4 @@
+# shellcheck shell=bash
 # Sourced by the scripts that build and run Rust and C for x86-64, which Rattle compiles for. On x86-64 the machine's own tools do it;
 # on another machine Debian's cross compiler, its Rust for amd64 and its emulator. `x86_tools` installs what is missing (Debian packages).
 
@@ -24,10 +25,11 @@ else
     x86_runner=qemu-x86_64
     export CARGO_TARGET_X86_64_UNKNOWN_LINUX_GNU_LINKER=$x86_cc CARGO_TARGET_X86_64_UNKNOWN_LINUX_GNU_RUNNER=$x86_runner
     x86_tools() {
-        local packages="cargo rustc libstd-rust-dev:amd64 gcc-x86-64-linux-gnu libc6-dev-amd64-cross qemu-user libc6:amd64"
-        # shellcheck disable=SC2086
-        dpkg -s $packages >/dev/null 2>&1 && return
-        dpkg --add-architecture amd64 && apt-get update -qq && x86_install $packages
+        local packages=(cargo rustc libstd-rust-dev:amd64 gcc-x86-64-linux-gnu libc6-dev-amd64-cross qemu-user libc6:amd64)
+        local there
+        there=$(dpkg-query -W -f '${db:Status-Status}\n' "${packages[@]}" 2>/dev/null | grep -c '^installed$' || true)
+        [ "$there" -eq ${#packages[@]} ] && return
+        dpkg --add-architecture amd64 && apt-get update -qq && x86_install "${packages[@]}"
     }
     x86_cargo() { RUSTC=/usr/bin/rustc RUSTDOC=/usr/bin/rustdoc /usr/bin/cargo "$@"; }
 fi

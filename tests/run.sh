@@ -1,7 +1,7 @@
 #!/usr/bin/env bash
 # The tests beside rt's: the C interface from C and from Rust, the samples, and the comparison with the second program.
 # Usage: bash tests/run.sh [CALLS]: compares at least so many calls (100,000). Installs what it needs (Debian packages), and proves and
-# builds the library and the listing program where that is not done yet.
+# builds the library and the listing program first.
 set -euo pipefail
 cd "$(dirname "$0")/.."
 # shellcheck source=rust/x86.sh
@@ -15,6 +15,14 @@ quietly() {
     "$@" >"$log" 2>&1 </dev/null || { cat "$log" >&2; echo "failed: $*" >&2; exit 1; }
 }
 
+# Runs a command and holds what it writes, its line ends as spaces, to the first argument.
+says() {
+    local wanted=$1
+    shift
+    quietly "$@"
+    [ "$(paste -sd' ' "$log")" = "$wanted" ] || { cat "$log" >&2; echo "not as wanted, $wanted: $*" >&2; exit 1; }
+}
+
 quietly rt staticlib ch11
 quietly rt check listing
 
@@ -23,8 +31,17 @@ mkdir -p target/c
 for source in tests/c/case_l.c examples/c/channels.c; do
     quietly $x86_cc -std=c11 -Wall -Wextra -Werror -pedantic -I include "$source" target/staticlib/libch11.a -o "target/c/$(basename "$source" .c)"
 done
-$x86_runner target/c/case_l
-test "$($x86_runner target/c/channels samples/flight.ch11 | paste -sd' ')" = '0 1 7 9 9 12 20'
+says 'case L: all fields right' $x86_runner target/c/case_l
+says '0 1 7 9 9 12 20' $x86_runner target/c/channels samples/flight.ch11
+
+echo "The samples, listed as samples/README.md says"
+while read -r sample last; do
+    says "$last" bash -c "./list 'samples/$sample.ch11' | tail -3"
+done <<'END'
+flight packets=7 bytes=636 answer=0
+cut packets=6 bytes=504 answer=10
+altered packets=3 bytes=156 answer=13
+END
 
 cd rust
 echo "Rust: the second program's own tests, the wrapper's, and its examples"

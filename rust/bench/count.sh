@@ -5,7 +5,7 @@ cd "$(dirname "$0")"
 # shellcheck source=rust/x86.sh
 source ../x86.sh
 x86_tools
-command -v qemu-x86_64 >/dev/null || x86_install qemu-user
+command -v qemu-x86_64 >/dev/null || { apt-get update -qq && x86_install qemu-user; }
 x86_cargo build --release --quiet --package bench
 plugin=$CARGO_TARGET_DIR/libcount.so
 cc -O2 -shared -fPIC count.c -o "$plugin"

@@ -9,6 +9,11 @@ fn main() {
         None => PathBuf::from(env::var_os("CARGO_MANIFEST_DIR").expect("cargo sets it"))
             .join("../../target/staticlib"),
     };
+    if env::var_os("CARGO_CFG_TARGET_ARCH").as_deref() != Some("x86_64".as_ref()) {
+        println!(
+            "cargo:warning=libch11.a is for x86-64: build with --target x86_64-unknown-linux-gnu"
+        );
+    }
     let library = folder.join("libch11.a");
     println!("cargo:rerun-if-changed={}", library.display());
     if !library.exists() {

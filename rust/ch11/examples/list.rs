@@ -1,28 +1,29 @@
 //! Lists a recording: channel, type and length of each packet, and the messages in it.
 //!
-//! Use: `list FILE`
+//! Usage: `list FILE`
 
 use std::error::Error;
+use std::io::{self, Write};
 use std::process::ExitCode;
 
 /// Prints the packets of a recording up to the first that is refused.
-fn list(recording: &[u8]) -> Result<(), ch11::Refusal> {
+fn list(recording: &[u8]) -> Result<(), Box<dyn Error>> {
+    let mut out = io::stdout().lock();
     let end = recording.len();
     for packet in ch11::packets(recording, 0, end) {
         let packet = packet?;
         let (channel, kind, length) = (packet.fields.channel, packet.fields.kind, packet.length);
-        println!("channel {channel} type {kind:#04x} length {length}");
+        writeln!(out, "channel {channel} type {kind:#04x} length {length}")?;
         for message in ch11::messages(recording, packet.header.at, end)? {
-            println!("  {}", message.escape_ascii());
+            writeln!(out, "  {}", message.escape_ascii())?;
         }
     }
     Ok(())
 }
 
 fn run() -> Result<(), Box<dyn Error>> {
-    let path = std::env::args_os().nth(1).ok_or("use: list FILE")?;
-    list(&std::fs::read(path)?)?;
-    Ok(())
+    let path = std::env::args_os().nth(1).ok_or("usage: list FILE")?;
+    list(&std::fs::read(path)?)
 }
 
 fn main() -> ExitCode {

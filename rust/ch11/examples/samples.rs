@@ -1,6 +1,6 @@
 //! Makes the recordings in `samples/` with the library's own builder and writer.
 //!
-//! Use: `samples FOLDER`
+//! Usage: `samples FOLDER`
 
 use ch11::{Draft, Fields, TimeRule, MESSAGE, UART};
 use std::error::Error;
@@ -105,7 +105,7 @@ fn flight() -> Result<Vec<u8>, Box<dyn Error>> {
 fn main() -> Result<(), Box<dyn Error>> {
     let folder: PathBuf = std::env::args_os()
         .nth(1)
-        .ok_or("use: samples FOLDER")?
+        .ok_or("usage: samples FOLDER")?
         .into();
     let flight = flight()?;
     // The recorder lost power in the last packet: 40 of its bytes are missing.

@@ -1,8 +1,8 @@
 //! Each call of the C interface against the second program, on one input.
 
-use crate::tally::{Tally, ADD, CLOSE, LIST, MESSAGE, OPEN, READ, RECORDING, WRITE};
+use crate::tally::{Call, Tally, ADD, CLOSE, LIST, ONE_MESSAGE, OPEN, READ, RECORDING, WRITE};
 use crate::{expected, library};
-use ch11::raw::{Draft, Fields, List, Packet, Refusal, Written};
+use ch11::raw::{Draft, Fields, List, Message, Packet, Recording, Refusal, Written};
 use generate::hex;
 use generate::random::Random;
 use generate::recipe::{Placed, Recipe};
@@ -14,7 +14,7 @@ const LIST_PATTERN: u32 = 0xA5A5_A5A5;
 /// Bytes or entries on both sides of what is lent, which a call must leave alone.
 const MARGIN: usize = 4;
 
-fn describe(window: &Placed) -> String {
+pub fn describe(window: &Placed) -> String {
     let (start, end) = (window.start, window.end);
     format!("start {} end {} of {}", start, end, hex(&window.buf))
 }
@@ -33,7 +33,7 @@ type ListCall = fn(&Placed, &mut [u32], &mut [u32]) -> (u64, List);
 type ListAnswer = (u64, (List, Vec<u32>, Vec<u32>));
 
 /// What the lister answers where lists of these lengths are lent, with the whole lists and a margin about each.
-fn list_by(call: ListCall, window: &Placed, starts: usize, lengths: usize) -> ListAnswer {
+pub fn list_by(call: ListCall, window: &Placed, starts: usize, lengths: usize) -> ListAnswer {
     let mut first = vec![LIST_PATTERN; starts + 2 * MARGIN];
     let mut second = vec![LIST_PATTERN; lengths + 2 * MARGIN];
     let lent = &mut first[MARGIN..MARGIN + starts];
@@ -41,24 +41,34 @@ fn list_by(call: ListCall, window: &Placed, starts: usize, lengths: usize) -> Li
     (number, (list, first, second))
 }
 
-pub fn list(tally: &mut Tally, window: &Placed, starts: usize, lengths: usize) {
+/// The lister, with lists of these lengths; those of a refused call are untouched.
+pub fn list(tally: &mut Tally, window: &Placed, starts: usize, lengths: usize) -> (u64, List) {
     let answer = list_by(library::list_messages, window, starts, lengths);
     let wanted = list_by(expected::list_messages, window, starts, lengths);
     let input = || format!("lists of {} and {}; {}", starts, lengths, describe(window));
     tally.compare(&LIST, &input, &answer, &wanted);
+    let (number, (list, first, second)) = answer;
+    if number != 0 {
+        let untouched = |entry: &u32| *entry == LIST_PATTERN;
+        let kept = first.iter().chain(&second).all(untouched);
+        tally.require("lists after a refusal", &input, &kept, &true);
+    }
+    (number, list)
 }
 
-pub fn message(tally: &mut Tally, window: &Placed, number: usize) {
+pub fn message(tally: &mut Tally, window: &Placed, number: usize) -> (u64, Message) {
     let answer = library::message(window, number);
     let wanted = expected::message(window, number);
     let input = || format!("message {}; {}", number, describe(window));
-    tally.compare(&MESSAGE, &input, &answer, &wanted);
+    tally.compare(&ONE_MESSAGE, &input, &answer, &wanted);
+    answer
 }
 
-pub fn recording(tally: &mut Tally, window: &Placed) {
+pub fn recording(tally: &mut Tally, window: &Placed) -> (u64, Recording) {
     let answer = library::read_recording(window);
     let wanted = expected::read_recording(window);
     tally.compare(&RECORDING, &|| describe(window), &answer, &wanted);
+    answer
 }
 
 /// How many messages the packet at the window's start has; 0 if it is refused.
@@ -69,8 +79,8 @@ pub fn messages_in(window: &Placed) -> usize {
         .room as usize
 }
 
-/// Lists and message numbers around the count of messages; the shorter list may be either.
-pub fn messages(tally: &mut Tally, random: &mut Random, window: &Placed) {
+/// Lists and message numbers around the count of messages; the shorter list may be either. Answers both refusals.
+pub fn messages(tally: &mut Tally, random: &mut Random, window: &Placed) -> [Refusal; 2] {
     let count = messages_in(window);
     let mut around = || match random.below(5) {
         0 => count.saturating_sub(1),
@@ -79,7 +89,7 @@ pub fn messages(tally: &mut Tally, random: &mut Random, window: &Placed) {
         _ => count,
     };
     let (starts, lengths) = (around(), around());
-    list(tally, window, starts, lengths);
+    let (_, listed) = list(tally, window, starts, lengths);
     let inside = random.index(count.max(1));
     let number = random.choose(&[
         0,
@@ -88,21 +98,41 @@ pub fn messages(tally: &mut Tally, random: &mut Random, window: &Placed) {
         count.saturating_sub(1),
         count,
         usize::MAX,
+        1 << 32 | inside,
     ]);
-    message(tally, window, number);
+    let (_, given) = message(tally, window, number);
+    [listed.refusal, given.refusal]
 }
 
-/// All four readers on one window.
+/// All four readers on one window. What the one-packet reader refuses, the others refuse alike, save "an empty window", which the
+/// recording reader accepts.
 pub fn window(tally: &mut Tally, random: &mut Random, window: &Placed) -> (u64, Packet) {
-    messages(tally, random, window);
-    recording(tally, window);
-    read(tally, window)
+    let [listed, given] = messages(tally, random, window);
+    let (_, recorded) = recording(tally, window);
+    let (number, packet) = read(tally, window);
+    if number != 0 {
+        let empty = number == 2 && window.start == window.end;
+        let of_recording = if empty {
+            Refusal::default()
+        } else {
+            packet.refusal
+        };
+        tally.require(
+            "one refusal from all readers",
+            &|| describe(window),
+            &[listed, given, recorded.refusal],
+            &[packet.refusal, packet.refusal, of_recording],
+        );
+    }
+    (number, packet)
 }
 
-/// The writer on these fields and this body, with an output of this length; the whole output is compared, with a margin.
-/// Answers the number and the packet.
+type WriteCall = fn(&Fields, &[u8], &mut [u8]) -> (u64, Written);
+
+/// The writer on these fields and this body, with an output of this length; the whole output is compared, with a margin, and that of a
+/// refused call is untouched. Answers the number and the packet.
 pub fn write(tally: &mut Tally, fields: &Fields, body: &[u8], room: usize) -> (u64, Vec<u8>) {
-    let run = |call: fn(&Fields, &[u8], &mut [u8]) -> (u64, Written)| {
+    let run = |call: WriteCall| {
         let mut out = vec![PATTERN; room + 2 * MARGIN];
         let (number, written) = call(fields, body, &mut out[MARGIN..MARGIN + room]);
         (number, (written, out))
@@ -111,6 +141,10 @@ pub fn write(tally: &mut Tally, fields: &Fields, body: &[u8], room: usize) -> (u
     let answer = run(library::write_packet);
     tally.compare(&WRITE, &input, &answer, &run(expected::write_packet));
     let (number, (written, mut out)) = answer;
+    if number != 0 {
+        let kept = out.iter().all(|byte| *byte == PATTERN);
+        tally.require("output after a refusal", &input, &kept, &true);
+    }
     out.truncate(MARGIN + written.length as usize);
     (number, out.split_off(MARGIN))
 }
@@ -155,111 +189,41 @@ pub enum Step {
     Close,
 }
 
+type StepAnswer = (&'static Call, (u64, Draft));
+
+fn step_of_library(draft: Draft, buf: &mut [u8], step: &Step) -> StepAnswer {
+    match step {
+        Step::Open(kind, rule) => (&OPEN, library::open(draft, buf, *kind, *rule)),
+        Step::Add(time, upper, bytes) => (&ADD, library::add(draft, buf, *time, *upper, bytes)),
+        Step::Close => (&CLOSE, library::close(draft, buf)),
+    }
+}
+
+fn step_expected(draft: Draft, buf: &mut [u8], step: &Step) -> (u64, Draft) {
+    match step {
+        Step::Open(kind, rule) => expected::open(draft, buf, *kind, *rule),
+        Step::Add(time, upper, bytes) => expected::add(draft, buf, *time, *upper, bytes),
+        Step::Close => expected::close(draft, buf),
+    }
+}
+
 /// One step from this state on this buffer; both are handed back as the library leaves them. The whole buffer is compared, with a
-/// margin.
+/// margin; a refused step "hands back the state it was given" and leaves the buffer untouched.
 pub fn step(tally: &mut Tally, draft: Draft, buf: &[u8], step: &Step) -> (u64, Draft, Vec<u8>) {
     let whole = [&[PATTERN; MARGIN], buf, &[PATTERN; MARGIN]].concat();
-    let (mut ours, mut theirs) = (whole.clone(), whole);
+    let (mut ours, mut theirs) = (whole.clone(), whole.clone());
     let lent = MARGIN..MARGIN + buf.len();
-    let (first, second) = (&mut ours[lent.clone()], &mut theirs[lent.clone()]);
-    let (call, (number, after), wanted) = match step {
-        Step::Open(kind, rule) => {
-            let answer = library::open(draft, first, *kind, *rule);
-            (&OPEN, answer, expected::open(draft, second, *kind, *rule))
-        }
-        Step::Add(time, upper, bytes) => {
-            let answer = library::add(draft, first, *time, *upper, bytes);
-            (
-                &ADD,
-                answer,
-                expected::add(draft, second, *time, *upper, bytes),
-            )
-        }
-        Step::Close => {
-            let answer = library::close(draft, first);
-            (&CLOSE, answer, expected::close(draft, second))
-        }
-    };
+    let (call, (number, after)) = step_of_library(draft, &mut ours[lent.clone()], step);
+    let wanted = step_expected(draft, &mut theirs[lent.clone()], step);
     let input = || format!("{:?} from {:?} on {}", step, draft, hex(buf));
+    let answer = (number, (after, ours));
+    tally.compare(call, &input, &answer, &(wanted.0, (wanted.1, theirs)));
+    let (_, (_, ours)) = answer;
     let built = ours[lent].to_vec();
-    tally.compare(
-        call,
-        &input,
-        &(number, (after, ours)),
-        &(wanted.0, (wanted.1, theirs)),
-    );
+    if number != 0 {
+        let refusal = after.refusal;
+        let given = (Draft { refusal, ..draft }, whole);
+        tally.require("a refused step", &input, &(after, ours), &given);
+    }
     (number, after, built)
-}
-
-/// "Two calls of one reader with equal start, end and bytes between them [...] give equal answers": the same window in another buffer,
-/// at its own start and at another, where the answers are the same but for the places.
-pub fn elsewhere(tally: &mut Tally, random: &mut Random, window: &Placed) {
-    if !window.is_within_buffer() {
-        return;
-    }
-    let other_start = random.index(40);
-    for start in [window.start, other_start] {
-        let there = window.elsewhere(random, start);
-        equal_answers(tally, random, window, &there);
-    }
-    // "For one accepted packet, the bytes behind its declared length have no say either."
-    if let (0, packet) = library::read_packet(window) {
-        let mut alone = window.clone();
-        alone.end = window.start + packet.length as usize;
-        let mut followed = alone.elsewhere(random, alone.start);
-        followed.end = followed.buf.len();
-        let answer = library::read_packet(&followed);
-        tally.compare(&READ, &|| describe(&followed), &answer, &(0, packet));
-    }
-}
-
-/// The library's answers for a window, moved to where it is in another buffer, are those that it gives there.
-fn equal_answers(tally: &mut Tally, random: &mut Random, here: &Placed, there: &Placed) {
-    let input = || format!("{} AS {}", describe(there), describe(here));
-    let by = (there.start as u64).wrapping_sub(here.start as u64);
-
-    let mut answer = library::read_packet(here);
-    move_packet(&mut answer.1, by);
-    tally.compare(&READ, &input, &library::read_packet(there), &answer);
-
-    let (starts, lengths) = (random.index(12), random.index(12));
-    let list = |at: &Placed| list_by(library::list_messages, at, starts, lengths);
-    let mut answer = list(here);
-    move_refusal(&mut answer.1 .0.refusal, by);
-    tally.compare(&LIST, &input, &list(there), &answer);
-
-    let number = random.index(3);
-    let mut answer = library::message(here, number);
-    move_refusal(&mut answer.1.refusal, by);
-    tally.compare(&MESSAGE, &input, &library::message(there, number), &answer);
-
-    let mut answer = library::read_recording(here);
-    move_refusal(&mut answer.1.refusal, by);
-    answer.1.reached = answer.1.reached.wrapping_add(by);
-    tally.compare(&RECORDING, &input, &library::read_recording(there), &answer);
-}
-
-/// The place of a refusal moves, that of none is 0.
-fn move_refusal(refusal: &mut Refusal, by: u64) {
-    if refusal.number != 0 {
-        refusal.place = refusal.place.wrapping_add(by);
-    }
-}
-
-/// The places of an accepted packet's parts move, those of a refused one are 0.
-fn move_packet(packet: &mut Packet, by: u64) {
-    move_refusal(&mut packet.refusal, by);
-    let Packet {
-        header,
-        secondary,
-        body,
-        filler,
-        sum,
-        ..
-    } = packet;
-    if packet.refusal.number == 0 {
-        for part in [header, secondary, body, filler, sum] {
-            part.at = part.at.wrapping_add(by);
-        }
-    }
 }

@@ -1,8 +1,13 @@
 //! Compares every call of the C interface with the second program, on inputs made for the purpose: `compare CALLS [SEED]` goes through
 //! the systematic inputs, then through rounds by chance until at least CALLS calls are compared.
 
+mod bodies;
+mod both_sides;
+mod building;
 mod check;
+mod elsewhere;
 mod expected;
+mod large;
 mod library;
 mod rounds;
 mod systematic;

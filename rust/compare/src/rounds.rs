@@ -1,19 +1,19 @@
 //! Rounds by chance: each makes one input and compares the calls on it.
 
+use crate::building::{KINDS, RULES};
 use crate::check::{self, Step};
-use crate::library;
-use crate::systematic::{KINDS, RULES};
 use crate::tally::Tally;
+use crate::{elsewhere, library};
 use ch11::raw::{Draft, Fields};
 use generate::causes::{causes, with_faults};
 use generate::opened::{some_n, MESSAGE, UART};
 use generate::random::Random;
-use generate::recipe::{time_in_form, time_out_of_form, Placed, Recipe};
+use generate::recipe::{time_in_form, time_to_try, Placed, Recipe};
 use generate::recording::{chance_recipe, packet_of_length, recording, some_faults};
 
 pub fn round(tally: &mut Tally, random: &mut Random) {
     match random.below(16) {
-        0..=1 => packet(tally, random, |random| Recipe::any(random)),
+        0..=1 => packet(tally, random, Recipe::any),
         2..=3 => packet(tally, random, |random| {
             let faults = some_faults(random, &causes(false));
             with_faults(random, &faults).0
@@ -35,7 +35,7 @@ fn readers(tally: &mut Tally, random: &mut Random, window: &Placed) {
         check::write_again(tally, window, &packet, random.index(9));
     }
     if random.one_in(4) {
-        check::elsewhere(tally, random, window);
+        elsewhere::equal(tally, random, window);
     }
 }
 
@@ -75,7 +75,7 @@ fn recordings(tally: &mut Tally, random: &mut Random) {
     let mut window = Placed::whole(packets).elsewhere(random, start);
     check::recording(tally, &window);
     if random.one_in(4) {
-        check::elsewhere(tally, random, &window);
+        elsewhere::equal(tally, random, &window);
     }
     while let (0, packet) = check::window(tally, random, &window) {
         window.start += packet.length as usize;
@@ -135,14 +135,34 @@ fn forged(random: &mut Random, state: Draft, length: usize) -> Draft {
     forged
 }
 
+/// A block as it is given to the builder.
+struct Given {
+    time: u64,
+    upper: u64,
+    bytes: Vec<u8>,
+}
+
+/// Time, ID word and bytes of a message.
+type MessageRead = (u64, u64, Vec<u8>);
+
+impl Given {
+    /// The message that the block is read as.
+    fn as_read(&self) -> MessageRead {
+        let id = self.upper << 16 | self.bytes.len() as u64;
+        (self.time, id, self.bytes.clone())
+    }
+}
+
 /// A block to add: mostly a good one for the rule.
-fn some_block(random: &mut Random, rule: u64) -> Step {
-    let (good, bad) = (time_in_form(random, rule), time_out_of_form(random, rule));
+fn some_block(random: &mut Random, rule: u64) -> Given {
+    let (good, bad) = (time_in_form(random, rule), time_to_try(random, rule));
     let n = some_n(random);
     let n = random.choose(&[n, n, n, n, n, n, n, 0]);
-    let time = random.choose(&[good, good, good, good, good, good, bad]);
-    let upper = random.choose(&[0, 1, 0x4000, 0x8000, 0xFFFF, 0xABCD, 0, 0x1_0000]);
-    Step::Add(time, upper, random.bytes(n))
+    Given {
+        time: random.choose(&[good, good, good, good, good, good, bad]),
+        upper: random.choose(&[0, 1, 0x4000, 0x8000, 0xFFFF, 0xABCD, 0, 0x1_0000]),
+        bytes: random.bytes(n),
+    }
 }
 
 /// A walk of opening, adding and closing, in which a state is forged now and then; a body closed without that is written and read.
@@ -155,33 +175,50 @@ fn builder(tally: &mut Tally, random: &mut Random) {
     let (draft, open) = (library::draft(0, 0, 0, 0), Step::Open(kind, rule));
     let (_, mut draft, mut buf) = check::step(tally, draft, &buf, &open);
     let forging = random.one_in(2);
+    let mut added = Vec::new();
     for _ in 0..random.below(9) {
         if forging && random.one_in(3) {
             draft = forged(random, draft, buf.len());
         }
         let block = some_block(random, draft.rule);
-        (_, draft, buf) = check::step(tally, draft, &buf, &block);
+        let add = Step::Add(block.time, block.upper, block.bytes.clone());
+        let (number, after, changed) = check::step(tally, draft, &buf, &add);
+        (draft, buf) = (after, changed);
+        if number == 0 {
+            added.push(block);
+        }
     }
     let (number, draft, buf) = check::step(tally, draft, &buf, &Step::Close);
     if number == 0 && !forging {
-        built(tally, random, &draft, &buf[..draft.used as usize]);
+        built(tally, random, &draft, &buf[..draft.used as usize], &added);
     }
 }
 
 /// A body that was built is accepted by the writer, and "reads back [...] as the blocks added".
-fn built(tally: &mut Tally, random: &mut Random, draft: &Draft, body: &[u8]) {
+fn built(tally: &mut Tally, random: &mut Random, draft: &Draft, body: &[u8], added: &[Given]) {
     let format = draft.rule.saturating_sub(2) << 2;
     let flags = if draft.rule < 2 { 0 } else { 0xC0 | format } | random.below(4);
     let mut recipe = Recipe::sound(random, draft.kind, flags);
     recipe.body = body.to_vec();
-    check::write_recipe(tally, &recipe, recipe.right_length());
+    let written = check::write_recipe(tally, &recipe, recipe.right_length());
+    tally.require("a body built", &|| format!("{:?}", draft), &written, &0);
     let window = recipe.placed(random);
     readers(tally, random, &window);
-    let listed = check::messages_in(&window) as u64;
-    tally.require(
-        "blocks added",
-        &|| format!("{:?}", draft),
-        &listed,
-        &draft.blocks,
-    );
+    let read = messages_read(tally, &window, added.len() + 1);
+    let wanted: Vec<_> = added.iter().map(Given::as_read).collect();
+    let input = || check::describe(&window);
+    tally.require("the blocks added", &input, &read, &wanted);
+}
+
+/// Each message of a packet by its number, up to so many.
+fn messages_read(tally: &mut Tally, window: &Placed, most: usize) -> Vec<MessageRead> {
+    let mut read = Vec::new();
+    for number in 0..most {
+        if let (0, message) = check::message(tally, window, number) {
+            let bytes = &window.buf[window.start + message.start as usize..];
+            let bytes = bytes[..message.length as usize].to_vec();
+            read.push((message.time, message.id, bytes));
+        }
+    }
+    read
 }

@@ -14,7 +14,7 @@ const TO_15_AND_17: &[u64] = &[0, 1, 2, 3, 4, 5, 6, 7, 8, 9, 10, 11, 12, 13, 14,
 
 pub static READ: Call = Call(0, "ch11_read_packet", TO_15);
 pub static LIST: Call = Call(1, "ch11_list_messages", TO_16);
-pub static MESSAGE: Call = Call(2, "ch11_message", TO_15_AND_17);
+pub static ONE_MESSAGE: Call = Call(2, "ch11_message", TO_15_AND_17);
 pub static RECORDING: Call = Call(3, "ch11_read_recording", TO_15);
 pub static WRITE: Call = Call(4, "ch11_write_packet", &[0, 5, 6, 7, 8, 9, 12, 15, 16, 17]);
 pub static OPEN: Call = Call(5, "ch11_open", &[0, 16, 17]);
@@ -22,7 +22,14 @@ pub static ADD: Call = Call(6, "ch11_add", &[0, 1, 15, 16, 17]);
 pub static CLOSE: Call = Call(7, "ch11_close", &[0, 1, 15]);
 
 static CALLS: [&Call; 8] = [
-    &READ, &LIST, &MESSAGE, &RECORDING, &WRITE, &OPEN, &ADD, &CLOSE,
+    &READ,
+    &LIST,
+    &ONE_MESSAGE,
+    &RECORDING,
+    &WRITE,
+    &OPEN,
+    &ADD,
+    &CLOSE,
 ];
 
 /// Describes a call's input, where it is asked for.
@@ -84,7 +91,7 @@ impl Tally {
         }
     }
 
-    /// Notes the type and flags of an accepted packet.
+    /// Notes the type and flags of an accepted packet; in the end they must be those of the rules, no fewer and no others.
     pub fn accepted(&mut self, kind: u64, flags: u64) {
         self.types.insert(kind);
         self.flags.insert(flags);
@@ -102,13 +109,16 @@ impl Tally {
             }
             println!();
         }
-        let all_types = TYPES.iter().all(|kind| self.types.contains(kind));
-        let all_flags = legal_flags().iter().all(|flags| self.flags.contains(flags));
+        let all_types = self.types == BTreeSet::from(TYPES);
+        let all_flags = self.flags == legal_flags().into_iter().collect();
         let (types, flags) = (self.types.len(), self.flags.len());
         println!(
             "accepted types: {} of 35; accepted flags: {} of 144",
             types, flags
         );
+        if !all_types || !all_flags {
+            println!("not those of the rules: {:?} {:?}", self.types, self.flags);
+        }
         println!("returned numbers never met: {}", missing);
         let (calls, differences) = (in_thousands(self.calls()), self.differences);
         println!("compared {} calls, {} differences", calls, differences);

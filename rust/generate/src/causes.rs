@@ -82,7 +82,7 @@ static RULES: &[Rule] = &[
         |r, _| declare(r, 0x01, 134_217_732),
         |r, _| declare(r, 0x01, 0xFFFF_FFFC),
     ]),
-    Rule(9, Writer, "at most 524,288", &[|r, _| r.body = vec![0; leave_type_1(r, 0x00, 524_289)]]),
+    Rule(9, Writer, "at most 524,288", &[|r, _| r.body = vec![0; body_for(with_limit_of(r, 0x00), 524_289)]]),
     Rule(9, Both, "D is at least 1.", &[|r, _| r.body = Vec::new()]),
     Rule(9, Readers, "P = 24, plus 12 if bit 7 is set, plus D, plus filler, plus the sum's width in bytes.", &[
         |r, _| r.length = Some(r.right_length() as u64 + 4),
@@ -93,7 +93,11 @@ static RULES: &[Rule] = &[
         |r, _| r.data_length = Some(r.body.len() as u64 + 0x1_0000),
         |r, _| r.data_length = Some(r.body.len() as u64 + 0x8000_0000),
     ]),
-    Rule(9, Readers, "D near 2^32 wraps to a small, plausible P.", &[|r, x| wrap(r, x)]),
+    Rule(9, Readers, "D near 2^32 wraps to a small, plausible P.", &[
+        |r, x| wrap(r, x),
+        |r, x| wrap(with_secondary(r), x),
+        |r, x| wrap(without_secondary_and_sum(r), x),
+    ]),
     Rule(10, Readers, "P exceeds the bytes in the window", &[
         |r, _| r.kept = Some(|length| (length - 1).max(24)),
         |r, _| r.kept = Some(|length| 24 + (length - 24) / 2),
@@ -265,31 +269,43 @@ fn channel_0(recipe: &mut Recipe, random: &mut Random) {
     }
 }
 
-/// Another type in the place of 0x01 or, where 0x01 is wanted, that one; answers the body that makes P so long without filler.
-fn leave_type_1(recipe: &mut Recipe, wanted: u64, length: usize) -> usize {
-    if recipe.kind == 0x01 || wanted == 0x01 {
-        recipe.kind = wanted;
+/// Gives the recipe this type where the greatest P of its own is another: that of 0x01 differs from all others'.
+fn with_limit_of(recipe: &mut Recipe, kind: u64) -> &mut Recipe {
+    if (recipe.kind == 0x01) != (kind == 0x01) {
+        recipe.kind = kind;
         recipe.channel = recipe.channel.max(1);
     }
+    recipe
+}
+
+/// The length of the body that makes P so long without filler.
+fn body_for(recipe: &Recipe, length: usize) -> usize {
     length - recipe.overhead()
 }
 
-/// Declares a packet of this length, and a body that fits it without filler.
-fn declare(recipe: &mut Recipe, wanted: u64, length: usize) {
+/// Declares a packet of this length, under the limit of this type, and a body that fits it without filler.
+fn declare(recipe: &mut Recipe, kind: u64, length: usize) {
     recipe.length = Some(length as u64);
-    recipe.data_length = Some(leave_type_1(recipe, wanted, length) as u64);
+    recipe.data_length = Some(body_for(with_limit_of(recipe, kind), length) as u64);
 }
 
 /// D near 2^32, and the P that adding in 32 bits would give.
 fn wrap(recipe: &mut Recipe, random: &mut Random) {
-    let overhead = with_secondary(recipe).overhead() as u64;
-    let data_length = (1 << 32) - 1 - random.below(overhead - 24);
+    let overhead = recipe.overhead() as u64;
+    let data_length = (1 << 32) - 1 - random.below(overhead - 21);
     recipe.data_length = Some(data_length);
     recipe.length = Some((overhead + data_length + 3) / 4 * 4 % (1 << 32));
 }
 
 fn with_secondary(recipe: &mut Recipe) -> &mut Recipe {
     recipe.flags |= 0x80;
+    recipe
+}
+
+/// Takes the secondary header and the data sum off: P is then 24, D and filler.
+fn without_secondary_and_sum(recipe: &mut Recipe) -> &mut Recipe {
+    without_secondary(recipe, 0, 0);
+    recipe.flags &= !3;
     recipe
 }
 

@@ -90,6 +90,28 @@ impl Opened {
         4 + self.blocks[..number].iter().map(whole).sum::<usize>()
     }
 
+    /// Where the fault stands in a 0x30 body of which the channel word, the count of blocks or an n of 0 may be at fault; nothing where
+    /// it is sound. The channel word is looked at first, then the blocks from the first.
+    pub fn message_fault(&self) -> Option<usize> {
+        let counter = self.channel_word & 0xFFFF;
+        let (word_is_sound, wanted) = match self.channel_word >> 16 {
+            0 => (counter >= 1, counter as usize),
+            1 => (counter == 1, 1),
+            2 | 3 => (counter >= 2, 1),
+            _ => (false, 0),
+        };
+        if !word_is_sound {
+            return Some(0);
+        }
+        let count = self.blocks.len();
+        let empty = self.blocks.iter().position(|block| block.n == 0);
+        match empty {
+            Some(number) if number < wanted => Some(self.block_at(number)),
+            _ if wanted != count => Some(self.block_at(wanted.min(count))),
+            _ => None,
+        }
+    }
+
     pub fn bytes(&self) -> Vec<u8> {
         let mut body = Vec::new();
         put(&mut body, 4, self.channel_word);

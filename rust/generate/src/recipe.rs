@@ -81,10 +81,14 @@ pub fn sum_width(flags: u64) -> usize {
     [0, 1, 2, 4][(flags & 3) as usize]
 }
 
-/// The flags that no rule refuses: bit 6 only with bit 7, no time format 11.
+/// Whether no rule refuses these flags: bit 6 only with bit 7, no time format 11.
+fn are_legal(flags: &u64) -> bool {
+    flags & 0x0C != 0x0C && flags & 0xC0 != 0x40
+}
+
+/// The flags that no rule refuses.
 pub fn legal_flags() -> Vec<u64> {
-    let legal = |flags: &u64| flags & 0x0C != 0x0C && flags & 0xC0 != 0x40;
-    (0..256).filter(legal).collect()
+    (0..256).filter(are_legal).collect()
 }
 
 /// The time rule of the secondary header: 2 Chapter 4, 3 IEEE 1588, 4 extended counter.
@@ -114,7 +118,7 @@ pub fn time_in_form(random: &mut Random, rule: u64) -> u64 {
     }
 }
 
-/// A time that the rule refuses; rules 0 and 4 give 1, which only rule 0 refuses.
+/// A time that the rule refuses; for rules 1 to 3, since rule 4 accepts any.
 pub fn time_out_of_form(random: &mut Random, rule: u64) -> u64 {
     let wide = random.wide();
     let bit = random.below(16);
@@ -122,7 +126,15 @@ pub fn time_out_of_form(random: &mut Random, rule: u64) -> u64 {
         1 => random.choose(&[1 << 48, wide | 1 << (48 + bit)]),
         2 => wide & !0xFFFF | 1 << bit,
         3 => wide >> 32 << 32 | random.choose(&[SECOND, 0xFFFF_FFFF, SECOND + (wide & 0xFFFF)]),
-        _ => 1,
+        _ => panic!("rule {} has no form", rule),
+    }
+}
+
+/// A time to try the builder's test with: out of form under rules 1 to 3; else not zero, which rule 0 refuses and rule 4 accepts.
+pub fn time_to_try(random: &mut Random, rule: u64) -> u64 {
+    match rule {
+        1..=3 => time_out_of_form(random, rule),
+        _ => random.wide().max(1),
     }
 }
 
@@ -175,6 +187,24 @@ impl Recipe {
             let length = 1 + random.index(most);
             self.body = random.bytes(length);
         }
+    }
+
+    /// The number that the first of the rules of version, type and flags gives; 0 where none is broken.
+    pub fn refused_field(&self) -> u64 {
+        if !(1..=9).contains(&self.version) {
+            5
+        } else if !TYPES.contains(&self.kind) {
+            6
+        } else if !are_legal(&self.flags) {
+            7
+        } else {
+            0
+        }
+    }
+
+    /// Where the body starts in the packet.
+    pub fn body_at(&self) -> usize {
+        self.overhead() - sum_width(self.flags)
     }
 
     /// P without body and filler.

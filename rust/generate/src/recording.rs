@@ -60,6 +60,20 @@ fn chance_body(random: &mut Random, body: &[u8]) -> Vec<u8> {
     bent
 }
 
+/// Some small packets: each sum width, with and without a secondary header, opened and carried.
+pub fn small_packets(random: &mut Random) -> Vec<Recipe> {
+    let flags = [0x00, 0x01, 0x82, 0xC7, 0x8B, 0x03, 0xC2];
+    let kinds = [MESSAGE, UART, MESSAGE, UART, 0x11, UART, MESSAGE];
+    let mut packets = Vec::new();
+    while packets.len() < flags.len() {
+        let recipe = Recipe::sound(random, kinds[packets.len()], flags[packets.len()]);
+        if (20..60).contains(&recipe.body.len()) {
+            packets.push(recipe);
+        }
+    }
+    packets
+}
+
 /// Some faults of the table, none to two.
 pub fn some_faults(random: &mut Random, all: &[Cause]) -> Vec<Cause> {
     (0..random.below(3)).map(|_| random.choose(all)).collect()

@@ -43,11 +43,11 @@ fn from_difference(text: &[u8], other: &[u8]) -> String {
     )
 }
 
-/// Whether the command's output for this input is the second program's; a command that a signal ended never passes.
+/// Whether the command's output for this input is the second program's; a command that fails never passes.
 fn is_same(command: &[String], number: u64, input: &[u8]) -> io::Result<bool> {
     let output = run(command, input)?;
     let expected = second::listing(input);
-    let same = output.stdout == expected && output.status.code().is_some();
+    let same = output.stdout == expected && output.status.success();
     if !same {
         println!("difference in listing {} ({})", number, output.status);
         println!("  input:    {}", hex(input));

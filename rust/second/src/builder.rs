@@ -79,13 +79,7 @@ pub fn open(draft: Draft, buf: &mut [u8], kind: u64, rule: u64) -> (Refusal, Dra
 }
 
 /// "adds a block (time, upper half of the ID word, bytes)".
-pub fn add(
-    draft: Draft,
-    buf: &mut [u8],
-    time: u64,
-    upper: u64,
-    bytes: &[u8],
-) -> (Refusal, Draft) {
+pub fn add(draft: Draft, buf: &mut [u8], time: u64, upper: u64, bytes: &[u8]) -> (Refusal, Draft) {
     // "Adding: 1,"
     if state_is_bad(draft, buf) {
         return refuse(OUTSIDE_BUFFER, 0, draft);

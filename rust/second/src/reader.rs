@@ -124,7 +124,10 @@ pub(crate) fn read_with_messages(
         return Err(refuse(WRONG_DATA_SUM, start));
     }
     // 14: "filler not zero"
-    if packet_bytes[filler_at..sum_at].iter().any(|byte| *byte != 0) {
+    if packet_bytes[filler_at..sum_at]
+        .iter()
+        .any(|byte| *byte != 0)
+    {
         return Err(refuse(FILLER_NOT_ZERO, start));
     }
     // 15: "opened body breaks its layout"; its place is the fault's own.

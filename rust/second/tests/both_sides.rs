@@ -13,7 +13,11 @@ const LISTING_L: &str = "packet=0\nat=0\nlength=40\nchannel=1\ntype=80\nversion=
 flags=2\nrtc=1\ntime=0\nbody=12\nfiller=2\nsum=17031\nmessages=1\npackets=1\nbytes=40\nanswer=0\n";
 
 fn refusal(number: u64, place: u64, room: u64) -> Refusal {
-    Refusal { number, place, room }
+    Refusal {
+        number,
+        place,
+        room,
+    }
 }
 
 fn part(at: u64, length: u64) -> Part {
@@ -111,8 +115,14 @@ fn windows_outside_the_buffer() {
     assert_eq!(read_packet(&CASE_L, 0, 41), Err(refusal(1, 0, 0)));
     assert_eq!(read_packet(&CASE_L, 2, 1), Err(refusal(1, 2, 0)));
     let far = usize::MAX;
-    assert_eq!(read_packet(&CASE_L, far, far), Err(refusal(1, far as u64, 0)));
-    assert_eq!(message(&CASE_L, far, 0, far), Err(refusal(1, far as u64, 0)));
+    assert_eq!(
+        read_packet(&CASE_L, far, far),
+        Err(refusal(1, far as u64, 0))
+    );
+    assert_eq!(
+        message(&CASE_L, far, 0, far),
+        Err(refusal(1, far as u64, 0))
+    );
     let recording = read_recording(&CASE_L, 41, 41);
     assert_eq!(recording.refusal, refusal(1, 41, 0));
     assert_eq!(recording.accepted, 0);
@@ -136,7 +146,13 @@ fn case_l_spoilt() {
 fn header_rules_in_their_order() {
     // Each line spoils one field more, from the bottom of the table upwards.
     let mut spoilt = CASE_L;
-    let spoils = [(8, 13, 9), (2, 0, 8), (14, 0x0C, 7), (15, 0x05, 6), (12, 10, 5)];
+    let spoils = [
+        (8, 13, 9),
+        (2, 0, 8),
+        (14, 0x0C, 7),
+        (15, 0x05, 6),
+        (12, 10, 5),
+    ];
     for (at, value, number) in spoils {
         spoilt[at] = value;
         mend_header(&mut spoilt);
@@ -175,7 +191,11 @@ fn defined_types_are_35() {
 #[test]
 fn sums_of_three_widths() {
     let body = &CASE_L[24..36];
-    let cases = [(1, 3, 0xC9, 40, 1), (3, 0, 0x0043_4244, 40, 4), (0, 0, 0, 36, 0)];
+    let cases = [
+        (1, 3, 0xC9, 40, 1),
+        (3, 0, 0x0043_4244, 40, 4),
+        (0, 0, 0, 36, 0),
+    ];
     for (flags, filler, sum, length, width) in cases {
         let mut fields = fields_l();
         fields.flags = flags;
@@ -219,7 +239,10 @@ fn secondary_times() {
     assert_eq!(read(&write(&fields, body)).unwrap().fields, fields);
     fields.time = 1_000_000_000;
     let mut out = [0xAA; 64];
-    assert_eq!(write_packet(&fields, body, &mut out), Err(refusal(12, 0, 0)));
+    assert_eq!(
+        write_packet(&fields, body, &mut out),
+        Err(refusal(12, 0, 0))
+    );
     assert_eq!(out, [0xAA; 64]);
     // The same time under the extended counter, then called IEEE 1588.
     fields.flags = 0x8A;
@@ -233,7 +256,10 @@ fn secondary_times() {
     fields.time = 0x1_0000;
     assert!(read(&write(&fields, body)).is_ok());
     fields.time = 0x1_8000;
-    assert_eq!(write_packet(&fields, body, &mut out), Err(refusal(12, 0, 0)));
+    assert_eq!(
+        write_packet(&fields, body, &mut out),
+        Err(refusal(12, 0, 0))
+    );
 }
 
 #[test]
@@ -264,7 +290,10 @@ fn shortest_packets() {
     assert_eq!(read(&by_hand(0x38, 0, &[])), Err(refusal(9, 0, 0)));
     let mut fields = fields_l();
     fields.kind = 0x38;
-    assert_eq!(write_packet(&fields, &[], &mut [0; 64]), Err(refusal(9, 0, 0)));
+    assert_eq!(
+        write_packet(&fields, &[], &mut [0; 64]),
+        Err(refusal(9, 0, 0))
+    );
 }
 
 #[test]
@@ -279,7 +308,10 @@ fn data_length_near_2_32() {
 #[test]
 fn uart_faults() {
     // The channel word alone: four bytes into the body.
-    assert_eq!(read(&by_hand(0x50, 0, &[0, 0, 0, 0])), Err(refusal(15, 28, 0)));
+    assert_eq!(
+        read(&by_hand(0x50, 0, &[0, 0, 0, 0])),
+        Err(refusal(15, 28, 0))
+    );
     // Less than a channel word, and reserved bits in it.
     assert_eq!(read(&by_hand(0x50, 0, &[0, 0, 0])), Err(refusal(15, 24, 0)));
     assert_eq!(
@@ -350,7 +382,10 @@ fn lists_and_messages() {
     let end = buffer.len();
     let mut starts = [99; 3];
     let mut lengths = [98; 4];
-    assert_eq!(list_messages(&buffer, 3, end, &mut starts, &mut lengths), Ok(2));
+    assert_eq!(
+        list_messages(&buffer, 3, end, &mut starts, &mut lengths),
+        Ok(2)
+    );
     assert_eq!(starts, [32, 38, 99]);
     assert_eq!(lengths, [1, 2, 98, 98]);
 
@@ -375,8 +410,14 @@ fn lists_and_messages() {
 
     // A type that isn't opened.
     let carried = by_hand(0x38, 0, &body);
-    assert_eq!(list_messages(&carried, 0, carried.len(), &mut [], &mut []), Ok(0));
-    assert_eq!(message(&carried, 0, carried.len(), 0), Err(refusal(17, 0, 0)));
+    assert_eq!(
+        list_messages(&carried, 0, carried.len(), &mut [], &mut []),
+        Ok(0)
+    );
+    assert_eq!(
+        message(&carried, 0, carried.len(), 0),
+        Err(refusal(17, 0, 0))
+    );
 }
 
 #[test]
@@ -415,7 +456,10 @@ fn writer_refusals() {
     let mut out = [0xAA; 39];
     let room = write_packet(&fields_l(), body, &mut out);
     assert_eq!(room, Err(refusal(16, 0, 40)));
-    assert_eq!(write_packet(&fields_l(), &body[..11], &mut out), Err(refusal(15, 0, 0)));
+    assert_eq!(
+        write_packet(&fields_l(), &body[..11], &mut out),
+        Err(refusal(15, 0, 0))
+    );
 
     // Each line spoils one field more, from the bottom of the table upwards.
     let mut fields = fields_l();
@@ -439,7 +483,10 @@ fn writer_refusals() {
     wide[5].rtc = 1 << 48;
     wide[6].time = 1;
     for fields in wide {
-        assert_eq!(write_packet(&fields, body, &mut out), Err(refusal(17, 0, 0)));
+        assert_eq!(
+            write_packet(&fields, body, &mut out),
+            Err(refusal(17, 0, 0))
+        );
     }
     assert_eq!(out, [0xAA; 39]);
 }

@@ -67,7 +67,10 @@ fn build_write_and_read_back() {
             assert_eq!(packet.data_length, closed.used);
             let mut starts = [0; 20];
             let mut lengths = [0; 20];
-            assert_eq!(list_messages(&out, 0, length, &mut starts, &mut lengths), Ok(20));
+            assert_eq!(
+                list_messages(&out, 0, length, &mut starts, &mut lengths),
+                Ok(20)
+            );
             for i in 1..=20u64 {
                 let read = message(&out, 0, length, i as usize - 1).unwrap();
                 assert_eq!(read.time, if rule == 0 { 0 } else { i << 16 });
@@ -91,10 +94,21 @@ fn opening() {
         rule: 7,
     };
     let mut buf = [0xAA; 8];
-    let refused = [(0x30, 0), (0x30, 5), (0x30, 6), (0x50, 5), (0x50, u64::MAX), (0x38, 1), (0x130, 1)];
+    let refused = [
+        (0x30, 0),
+        (0x30, 5),
+        (0x30, 6),
+        (0x50, 5),
+        (0x50, u64::MAX),
+        (0x38, 1),
+        (0x130, 1),
+    ];
     for (kind, rule) in refused {
         assert_eq!(open(given, &mut buf, kind, rule), (refusal(17, 0), given));
-        assert_eq!(open(given, &mut buf[..3], kind, rule), (refusal(17, 0), given));
+        assert_eq!(
+            open(given, &mut buf[..3], kind, rule),
+            (refusal(17, 0), given)
+        );
     }
     assert_eq!(open(given, &mut buf[..3], 0x50, 0), (refusal(16, 4), given));
     assert_eq!(buf, [0xAA; 8]);
@@ -131,7 +145,10 @@ fn bad_states() {
     bad[6].blocks = 65_536;
     let mut buf = [0xAA; 100];
     for draft in bad {
-        assert_eq!(add(draft, &mut buf, u64::MAX, u64::MAX, &[]), (refusal(1, 0), draft));
+        assert_eq!(
+            add(draft, &mut buf, u64::MAX, u64::MAX, &[]),
+            (refusal(1, 0), draft)
+        );
         assert_eq!(close(draft, &mut buf), (refusal(1, 0), draft));
     }
     assert_eq!(buf, [0xAA; 100]);
@@ -147,13 +164,31 @@ fn adding() {
     };
     let mut buf = vec![0xAA; 19];
     let long = vec![1; 65_536];
-    assert_eq!(add(draft, &mut buf, 1 << 48, 0, &[]), (refusal(17, 0), draft));
-    assert_eq!(add(draft, &mut buf, 1 << 48, 0, &long), (refusal(17, 0), draft));
-    assert_eq!(add(draft, &mut buf, 1 << 48, 0x1_0000, &[1]), (refusal(17, 0), draft));
-    assert_eq!(add(draft, &mut buf, 1 << 48, 0, &long[1..]), (refusal(15, 0), draft));
+    assert_eq!(
+        add(draft, &mut buf, 1 << 48, 0, &[]),
+        (refusal(17, 0), draft)
+    );
+    assert_eq!(
+        add(draft, &mut buf, 1 << 48, 0, &long),
+        (refusal(17, 0), draft)
+    );
+    assert_eq!(
+        add(draft, &mut buf, 1 << 48, 0x1_0000, &[1]),
+        (refusal(17, 0), draft)
+    );
+    assert_eq!(
+        add(draft, &mut buf, 1 << 48, 0, &long[1..]),
+        (refusal(15, 0), draft)
+    );
     // 4 + 8 + 4 + 65,535 + 1, and 4 + 8 + 4 + 3 + 1.
-    assert_eq!(add(draft, &mut buf, 1, 0, &long[1..]), (refusal(16, 65_552), draft));
-    assert_eq!(add(draft, &mut buf, 1, 0, &[1, 2, 3]), (refusal(16, 20), draft));
+    assert_eq!(
+        add(draft, &mut buf, 1, 0, &long[1..]),
+        (refusal(16, 65_552), draft)
+    );
+    assert_eq!(
+        add(draft, &mut buf, 1, 0, &[1, 2, 3]),
+        (refusal(16, 20), draft)
+    );
     assert_eq!(buf, vec![0xAA; 19]);
 
     let full = Draft {
@@ -162,7 +197,10 @@ fn adding() {
         kind: 0x30,
         rule: 1,
     };
-    assert_eq!(add(full, &mut buf, 1 << 48, 0, &[1]), (refusal(17, 0), full));
+    assert_eq!(
+        add(full, &mut buf, 1 << 48, 0, &[1]),
+        (refusal(17, 0), full)
+    );
 
     let untimed = Draft {
         used: 4,
@@ -170,12 +208,18 @@ fn adding() {
         kind: 0x50,
         rule: 0,
     };
-    assert_eq!(add(untimed, &mut buf, 1, 0, &long[1..]), (refusal(17, 0), untimed));
+    assert_eq!(
+        add(untimed, &mut buf, 1, 0, &long[1..]),
+        (refusal(17, 0), untimed)
+    );
     let (answer, next) = add(untimed, &mut buf, 0, 0x1234, &[9]);
     assert_eq!(answer, DONE);
     assert_eq!(next.blocks, 0);
     assert_eq!(next.used, 10);
-    assert_eq!(buf[..11], [0xAA, 0xAA, 0xAA, 0xAA, 1, 0, 0x34, 0x12, 9, 0, 0xAA]);
+    assert_eq!(
+        buf[..11],
+        [0xAA, 0xAA, 0xAA, 0xAA, 1, 0, 0x34, 0x12, 9, 0, 0xAA]
+    );
 }
 
 #[test]
@@ -228,5 +272,8 @@ fn ten_thousand_messages() {
     let mut lengths = vec![0; 10_000];
     let count = list_messages(&out, 0, length as usize, &mut starts, &mut lengths);
     assert_eq!(count, Ok(10_000));
-    assert_eq!(message(&out, 0, length as usize, 9_999).unwrap().time, 9_999);
+    assert_eq!(
+        message(&out, 0, length as usize, 9_999).unwrap().time,
+        9_999
+    );
 }
