@@ -3,7 +3,7 @@
 # on another machine Debian's cross compiler, its Rust for amd64 and its emulator. `x86_tools` installs what is missing (Debian packages).
 
 x86_root=$(cd "$(dirname "${BASH_SOURCE[0]}")/.." && pwd)
-export CARGO_TARGET_DIR=$x86_root/target/rust CARGO_NET_OFFLINE=true CARGO_BUILD_TARGET=x86_64-unknown-linux-gnu
+export CARGO_TARGET_DIR=$x86_root/rust/target CARGO_NET_OFFLINE=true CARGO_BUILD_TARGET=x86_64-unknown-linux-gnu
 x86_built=$CARGO_TARGET_DIR/$CARGO_BUILD_TARGET/release
 
 x86_install() {
@@ -33,3 +33,6 @@ else
     }
     x86_cargo() { RUSTC=/usr/bin/rustc RUSTDOC=/usr/bin/rustdoc /usr/bin/cargo "$@"; }
 fi
+
+# The same cargo for a program that runs on this machine itself.
+x86_host_cargo() { (unset CARGO_BUILD_TARGET && x86_cargo "$@"); }

@@ -6,7 +6,6 @@ set -euo pipefail
 cd "$(dirname "$0")/.."
 # shellcheck source=rust/x86.sh
 source rust/x86.sh
-x86_tools
 log=$(mktemp)
 trap 'rm -f "$log"' EXIT
 
@@ -23,6 +22,7 @@ says() {
     [ "$(paste -sd' ' "$log")" = "$wanted" ] || { cat "$log" >&2; echo "not as wanted, $wanted: $*" >&2; exit 1; }
 }
 
+quietly bash tests/prepare.sh
 quietly rt staticlib ch11
 quietly rt check listing
 
@@ -61,8 +61,4 @@ tail -1 "$log"
 echo "Benchmark: library and the same method in Rust agree on its inputs"
 quietly $x86_runner "$x86_built/bench" 1 'a trial'
 echo "Comparison with the second program: listings"
-(
-    # This one starts the listing program, so it is built for the machine itself.
-    unset CARGO_BUILD_TARGET
-    x86_cargo run --release --quiet -p listings -- 300 $x86_runner ../target/bin/listing
-)
+x86_host_cargo run --release --quiet -p listings -- 300 $x86_runner ../target/bin/listing

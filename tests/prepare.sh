@@ -1,0 +1,11 @@
+#!/usr/bin/env bash
+# Installs what tests/run.sh needs (Debian packages), and builds what it needs of Rust that does not link the library.
+set -euo pipefail
+cd "$(dirname "$0")/../rust"
+# shellcheck source=rust/x86.sh
+source x86.sh
+x86_tools
+x86_cargo test --release --quiet --no-run -p second
+x86_cargo build --release --quiet -p generate -p second
+# This one starts the listing program, so it is built for the machine itself.
+x86_host_cargo build --release --quiet -p listings
