@@ -10,6 +10,16 @@ x86_install() {
     DEBIAN_FRONTEND=noninteractive apt-get install -y -qq --no-install-recommends "$@" >/dev/null
 }
 
+# Debian's Rust, and with the emulator beside it what instructions are counted with: the same on every machine.
+x86_counting_tools() {
+    local missing=()
+    [ -x /usr/bin/cargo ] || missing+=(cargo)
+    [ -x /usr/bin/rustc ] || missing+=(rustc)
+    command -v qemu-x86_64 >/dev/null || missing+=(qemu-user)
+    [ ${#missing[@]} -eq 0 ] || { apt-get update -qq && x86_install "${missing[@]}"; }
+}
+x86_debian_cargo() { RUSTC=/usr/bin/rustc RUSTDOC=/usr/bin/rustdoc /usr/bin/cargo "$@"; }
+
 if [ "$(uname -m)" = x86_64 ]; then
     x86_cc=cc
     x86_runner=
@@ -31,7 +41,7 @@ else
         [ "$there" -eq ${#packages[@]} ] && return
         dpkg --add-architecture amd64 && apt-get update -qq && x86_install "${packages[@]}"
     }
-    x86_cargo() { RUSTC=/usr/bin/rustc RUSTDOC=/usr/bin/rustdoc /usr/bin/cargo "$@"; }
+    x86_cargo() { x86_debian_cargo "$@"; }
 fi
 
 # The same cargo for a program that runs on this machine itself.

@@ -5,6 +5,7 @@ cd "$(dirname "$0")/../rust"
 # shellcheck source=rust/x86.sh
 source x86.sh
 x86_tools
+x86_counting_tools
 x86_cargo test --release --quiet --no-run -p second
 x86_cargo build --release --quiet -p generate -p second
 # This one starts the listing program, so it is built for the machine itself.

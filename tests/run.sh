@@ -1,5 +1,6 @@
 #!/usr/bin/env bash
-# The tests beside rt's: the C interface from C and from Rust, the samples, and the comparison with the second program.
+# The tests beside rt's: the C interface from C and from Rust, the samples, the comparison with the second program, and the
+# benchmark's instructions.
 # Usage: bash tests/run.sh [CALLS]: compares at least so many calls (100,000). Installs what it needs (Debian packages), and proves and
 # builds the library and the listing program first.
 set -euo pipefail
@@ -60,5 +61,7 @@ quietly $x86_runner "$x86_built/compare" "${1:-100000}"
 tail -1 "$log"
 echo "Benchmark: library and the same method in Rust agree on its inputs"
 quietly $x86_runner "$x86_built/bench" 1 'a trial'
+echo "Benchmark: instructions, held to docs/BENCH.md"
+bash bench/count.sh
 echo "Comparison with the second program: listings"
 x86_host_cargo run --release --quiet -p listings -- 300 $x86_runner ../target/bin/listing

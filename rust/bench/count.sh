@@ -1,30 +1,123 @@
 #!/bin/bash
-# Counts the instructions of one pass over each input, by the emulator, on any machine that has it: bash rust/bench/count.sh
+# Counts the instructions of one pass over each input, by the emulator, and holds the counts to those that docs/BENCH.md states.
+# Usage: bash rust/bench/count.sh [--markdown | --own]: only prints the table, as docs/BENCH.md has it, or by the machine's own Rust.
+# Otherwise Debian's rustc and emulator are used on every machine, so that the counts are the same on all.
 set -euo pipefail
+shopt -s inherit_errexit
 cd "$(dirname "$0")"
 # shellcheck source=rust/x86.sh
 source ../x86.sh
 x86_tools
-command -v qemu-x86_64 >/dev/null || { apt-get update -qq && x86_install qemu-user; }
-x86_cargo build --release --quiet --package bench
+x86_counting_tools
+mode=${1:-}
+rust=debian
+[ "$mode" != --own ] || rust=own
+
+# Builds the program with these options of cargo in a folder of its own.
+built() {
+    local folder=$CARGO_TARGET_DIR/$1 cargo=x86_debian_cargo
+    shift
+    [ "$rust" = debian ] || cargo=x86_cargo
+    CARGO_TARGET_DIR=$folder $cargo build --release --quiet --package bench "$@"
+    echo "$folder/$CARGO_BUILD_TARGET/release/bench"
+}
+bench=$(built $rust)
+inlined=$(built $rust-inlined --features inlined)
 plugin=$CARGO_TARGET_DIR/libcount.so
 cc -O2 -shared -fPIC count.c -o "$plugin"
-bench=$x86_built/bench
+document=$x86_root/docs/BENCH.md
 
-# All instructions of the program when it makes so many passes; the plugin prints them behind everything else.
+# A plain x86-64. For the emulator's own choice of processor libc copies by `rep movsb`, of which each byte would count.
+emulate() {
+    qemu-x86_64 -cpu qemu64 "$@"
+}
+
+# All instructions of a program when it makes so many passes over an input on a side; the plugin prints them behind everything else.
 instructions() {
-    qemu-x86_64 -plugin "$plugin" "$bench" count "$1" "$2" "$3" 2>&1 | tail -1
+    emulate -plugin "$plugin" "$1" count "$2" "$3" "$4" 2>&1 | tail -1
 }
 
 # One pass: what 3 passes take more than 1, halved, so that starting and making the input drop out.
 one_pass() {
-    echo $((($(instructions "$1" "$2" 3) - $(instructions "$1" "$2" 1)) / 2))
+    local one three
+    one=$(instructions "$@" 1)
+    three=$(instructions "$@" 3)
+    echo $(((three - one) / 2))
 }
 
-printf '%-16s %12s %12s %6s %12s\n' input library Rust ratio read-only
-for input in $(qemu-x86_64 "$bench" inputs); do
-    library=$(one_pass "$input" library)
-    rust=$(one_pass "$input" rust)
-    ratio=$(awk "BEGIN { printf \"%.2f\", $library / $rust }")
-    printf '%-16s %12s %12s %6s %12s\n' "$input" "$library" "$rust" "$ratio" "$(one_pass "$input" read)"
-done
+# A line for each input: name, packets of a pass, counts of library, Rust, inlined Rust and read-only pass (- where it is no measure).
+count_all() {
+    local name packets read_only
+    while read -r name packets read_only; do
+        [ "$read_only" = - ] || read_only=$(one_pass "$bench" "$name" read)
+        echo "$name $packets $(one_pass "$bench" "$name" library) $(one_pass "$bench" "$name" rust)" \
+            "$(one_pass "$inlined" "$name" rust) $read_only"
+    done < <(emulate "$bench" inputs)
+}
+
+# A number with commas; - as it is.
+commas() {
+    sed -E ':more; s/([0-9])([0-9]{3})(,|$)/\1,\2\3/; t more' <<<"$1"
+}
+
+# The count for one of so many packets, rounded; - where there is only one.
+each() {
+    if [ "$2" -gt 1 ]; then commas $((($1 + $2 / 2) / $2)); else echo -; fi
+}
+
+# The first count in parts of the second, to two places.
+ratio() {
+    local hundredths=$((($1 * 100 + $2 / 2) / $2))
+    printf '%d.%02d' $((hundredths / 100)) $((hundredths % 100))
+}
+
+# Prints each input's figures by this format of nine strings.
+print_table() {
+    local name packets library rust inlined read_only
+    while read -r name packets library rust inlined read_only; do
+        # shellcheck disable=SC2059
+        printf "$1" "$name" "$(commas "$library")" "$(commas "$rust")" "$(ratio "$library" "$rust")" \
+            "$(commas "$inlined")" "$(ratio "$library" "$inlined")" \
+            "$(each "$library" "$packets")" "$(each "$rust" "$packets")" "$(commas "$read_only")"
+    done <<<"$counts"
+}
+
+# The library's count for an input in the document's table of instructions; nothing if it isn't there.
+stated_for() {
+    awk -F ' *[|] *' -v input="$1" '
+        /^## / { inside = /^## Instructions/ }
+        inside && $2 == input { gsub(",", "", $3); print $3 }' "$document"
+}
+
+# Says what is wrong with an input's counts, if anything is.
+faults_of() {
+    local name=$1 library=$2 rust=$3 stated
+    stated=$(stated_for "$name")
+    if ! [[ $stated =~ ^[0-9]+$ ]]; then
+        echo "$name: the library took $library, and docs/BENCH.md has no such row"
+    elif [ $((library * 100)) -gt $((stated * 103)) ]; then
+        echo "$name: the library took $library, over 3 % more than the $stated that docs/BENCH.md states"
+    fi
+    if [[ $name == 512K-sum* ]] && [ $((library * 2)) -gt $((rust * 3)) ]; then
+        echo "$name: the library took $library, over 1.5 times Rust's $rust"
+    fi
+}
+
+counts=$(count_all)
+if [ "$mode" = --markdown ]; then
+    echo '| Input | Library | Rust | Ratio | Rust, inlined | Ratio | Library, a packet | Rust, a packet | Read-only |'
+    echo '|---|---|---|---|---|---|---|---|---|'
+    print_table '| %s | %s | %s | %s | %s | %s | %s | %s | %s |\n'
+    exit
+fi
+echo "Rust by $(emulate "$bench" compiler)"
+echo "counted by $(qemu-x86_64 --version | head -1), processor qemu64"
+echo "instructions of one pass; ratios = library / Rust, left to the compiler and inlined"
+echo
+format='%-16s %10s %10s %6s %10s %6s %9s %9s %9s\n'
+# shellcheck disable=SC2059
+printf "$format" input library Rust ratio inlined ratio library/1 Rust/1 read-only
+print_table "$format"
+[ "$rust" = debian ] || exit 0
+faults=$(while read -r name _ library rust _; do faults_of "$name" "$library" "$rust"; done <<<"$counts")
+[ -z "$faults" ] || { echo "$faults" >&2; exit 1; }

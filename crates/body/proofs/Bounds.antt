@@ -1,8 +1,8 @@
--- Places lie in the body or at its end: a fault's, and a message's bytes. Assumes nothing.
+-- How a walk ends; places lie in the body or at its end: a fault's, and a message's bytes. Assumes nothing.
 use mathlib.Core.Path.{_≡_, refl, sym, ap, _∙_}
 use mathlib.Core.List.{List}
 use mathlib.Core.Bool.{Bool, true, false, not}
-use mathlib.Core.Logic.{_≢_}
+use mathlib.Core.Logic.{_≢_, _⊎_, inl, inr, ⊎-elim}
 use Prim.Native.Nat.{ℕ, zero, suc, _+_, _-_, _%_, _≤_, _<_}
 use native.Mathlib.Omega.{arith}
 use native.Mathlib.Nat.{zero-add, add-zero}
@@ -22,6 +22,7 @@ use Rattle.body.specs.declared.Opened.{Opened}
 use Rattle.body.specs.declared.Opened.the-variants.{Carried, Shaped, Wrong}
 use Rattle.body.specs.declared.Block.{Block}
 use Rattle.body.specs.declared.Block.the-variants.{Found, Broken}
+use Rattle.body.specs.declared.Checked.{Checked}
 use Rattle.body.specs.declared.Checked.the-variants.{Counted, Faulty}
 use Rattle.body.proofs.Walking.{Walking, walking-first, walking-next, walk-stop, walk-broken, walk-found, open-long}
 use Rattle.body.proofs.Reading.{Reading, reading-first, reading-ahead, message-shaped}
@@ -58,32 +59,53 @@ ending-faulty len k at r e = go (eqb at len) refl e
     go true t e = let z : _≡_ {A = ℕ} 0 1 = cc in absurd (omega arith)
     go false t e = (cc, eqb-false at len t)
 
-walk-place : (sh : Shape) (bs : List ℕ) (f k at : ℕ) (r : Refusal) → Walking sh bs k at → length bs < f + k → walkFrom sh bs f k ≡ Faulty r → r .place ≤ length bs
-walk-place sh bs zero k at r w hf e = absurd (omega arith)
-walk-place sh bs (suc f) k at r w hf e =
-    go (stopAt sh (length bs) k at) refl (blockAt sh bs at) refl (λ next v. walk-place sh bs f (k + 1) next r v (omega arith))
+-- how a walk ends, behind this many blocks and at this place: it stops there, or finds no block there
+pub record End (sh : Shape) (bs : List ℕ) (says : Checked) : Type 0 where
+  pub blocks : ℕ
+  pub place : ℕ
+  pub there : Walking sh bs blocks place
+  pub how : ((stopAt sh (length bs) blocks place ≡ true) × (says ≡ ending (length bs) blocks place)) ⊎ (says ≡ Faulty (fault place))
+
+-- from the k-th block on, for the walk over the whole
+walk-ends : (sh : Shape) (bs : List ℕ) (f k at : ℕ) → Walking sh bs k at → length bs < f + k → End sh bs (walkFrom sh bs f k)
+walk-ends sh bs zero k at w hf = absurd (omega arith)
+walk-ends sh bs (suc f) k at w hf =
+    go (stopAt sh (length bs) k at) refl (blockAt sh bs at) refl (λ next v. walk-ends sh bs f (k + 1) next v (omega arith))
   where
     go : (b : Bool) → stopAt sh (length bs) k at ≡ b → (x : Block) → blockAt sh bs at ≡ x
-        → ((next : ℕ) → Walking sh bs (k + 1) next → walkFrom sh bs f (k + 1) ≡ Faulty r → r .place ≤ length bs) → r .place ≤ length bs
-    go true s x b rest =
-        let p = ending-faulty (length bs) k at r (sym (walk-stop sh bs (suc f) k at (w .0) (omega arith) s) ∙ e) in
-        omega (arith, w .2, ap (λ (x : Refusal). x .place) (p .0))
+        → ((next : ℕ) → Walking sh bs (k + 1) next → End sh bs (walkFrom sh bs f (k + 1))) → End sh bs (walkFrom sh bs (suc f) k)
+    go true s x b rest = record { blocks = k; place = at; there = w; how = inl (s, walk-stop sh bs (suc f) k at (w .0) (omega arith) s) }
     go false s (Broken q) b rest =
-        let same : q ≡ r = cc (sym (walk-broken sh bs (suc f) k at (w .0) (omega arith) q s b) ∙ e) in
-        let p : r .place ≡ at = ap (λ (x : Refusal). x .place) (sym same ∙ broken-at sh bs at q b) in
-        omega (arith, w .2)
+        record { blocks = k; place = at; there = w; how = inr (walk-broken sh bs (suc f) k at (w .0) (omega arith) q s b ∙ ap Faulty (broken-at sh bs at q b)) }
     go false s (Found m next) b rest =
         let pf : suc f - 1 ≡ f = omega arith in
-        rest next (walking-next sh bs k at m next w b) (rw pf at (sym (walk-found sh bs (suc f) k at (w .0) (omega arith) m next s b) ∙ e))
+        let on : walkFrom sh bs (suc f) k ≡ walkFrom sh bs f (k + 1) = rw pf at (walk-found sh bs (suc f) k at (w .0) (omega arith) m next s b) in
+        rw on (rest next (walking-next sh bs k at m next w b))
 
-pub faulty-place : (kind : ℕ) (rule : TimeRule) (bs : List ℕ) (r : Refusal) → checkBody kind rule bs ≡ Faulty r → r .place ≤ length bs
-unfolding checkBody walk
-faulty-place kind rule bs r e = go (openBody kind rule bs) refl e
+-- the walk over a body that has its channel word
+pub walk-end : (sh : Shape) (bs : List ℕ) → 4 ≤ length bs → End sh bs (walk sh bs)
+unfolding walk
+walk-end sh bs long = walk-ends sh bs (length bs + 1) 0 4 (walking-first sh bs long) (omega arith)
+
+-- every refusal of a body is 15, and its place lies in the body or at its end
+pub faulty-is : (kind : ℕ) (rule : TimeRule) (bs : List ℕ) (r : Refusal) → checkBody kind rule bs ≡ Faulty r → (r ≡ fault (r .place)) × (r .place ≤ length bs)
+unfolding checkBody
+faulty-is kind rule bs r e = go (openBody kind rule bs) refl e
   where
-    go : (o : Opened) → openBody kind rule bs ≡ o → checkOpened o bs ≡ Faulty r → r .place ≤ length bs
+    at : (place : ℕ) → place ≤ length bs → r ≡ fault place → (r ≡ fault (r .place)) × (r .place ≤ length bs)
+    at place h is = let p : r .place ≡ place = ap (λ (x : Refusal). x .place) is in (is ∙ ap fault (sym p), omega arith)
+
+    go : (o : Opened) → openBody kind rule bs ≡ o → checkOpened o bs ≡ Faulty r → (r ≡ fault (r .place)) × (r .place ≤ length bs)
     go Carried q h = let z : _≡_ {A = ℕ} 0 1 = cc in absurd (omega arith)
-    go (Shaped sh) q h = walk-place sh bs (length bs + 1) 0 4 r (walking-first sh bs (open-long kind rule bs sh q)) (omega arith) h
-    go Wrong q h = let p : r .place ≡ 0 = cc in omega arith
+    go (Shaped sh) q h =
+        let x = walk-end sh bs (open-long kind rule bs sh q) in
+        at (x .place) (x .there .2)
+        (⊎-elim (λ s. ending-faulty (length bs) (x .blocks) (x .place) r (sym (s .1) ∙ h) .0) (λ s. let same : Faulty r ≡ Faulty (fault (x .place)) = sym h ∙ s in cc) (x .how))
+    go Wrong q h = at 0 (omega arith) (cc)
+
+-- the place alone
+pub faulty-place : (kind : ℕ) (rule : TimeRule) (bs : List ℕ) (r : Refusal) → checkBody kind rule bs ≡ Faulty r → r .place ≤ length bs
+faulty-place kind rule bs r e = faulty-is kind rule bs r e .1
 
 -- ---- messages
 

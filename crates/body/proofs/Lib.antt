@@ -1,7 +1,10 @@
+pub mod Times
 pub mod Walking
 pub mod Reading
 pub mod Blocks
 pub mod Whole
 pub mod Exactly
 pub mod Bounds
+pub mod Steps
+pub mod Counts
 pub mod Faults

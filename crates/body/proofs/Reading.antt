@@ -114,13 +114,10 @@ module _ (sh : Shape) (bs : List ℕ) (n k at : ℕ) (now : Reading sh bs n k at
         short = omega (arith, ap (λ (x : Message). x .length) is);
       }
 
--- the messages of a body whose shape is known
+-- the k-th message of a body whose shape is known
 pub message-shaped : (kind : ℕ) (rule : TimeRule) (bs : List ℕ) (sh : Shape) (k : ℕ) → openBody kind rule bs ≡ Shaped sh → messageIn kind rule bs k ≡ messageOf sh bs k
 unfolding messageIn
 message-shaped kind rule bs sh k e = ap (λ (o : Opened). messageOpened o bs k) e
-
-pub messages-shaped : (kind : ℕ) (rule : TimeRule) (bs : List ℕ) (sh : Shape) → openBody kind rule bs ≡ Shaped sh → messageIn kind rule bs ≡ messageOf sh bs
-messages-shaped kind rule bs sh e = λ i k. message-shaped kind rule bs sh k e i
 
 -- ---- lists filled from the front
 
@@ -133,6 +130,11 @@ pub tab-ext : {A : Type 0} (n : ℕ) (f g : ℕ → A) → ((k : ℕ) → k < n 
 unfolding tab
 tab-ext zero f g h = refl
 tab-ext (suc n) f g h = simp (tab-ext n f g (λ k l. h k (omega arith)), h n (omega arith))
+
+-- no entry
+pub fill-none : (n : ℕ) (f : ℕ → ℕ) (old : List ℕ) → n ≡ 0 → old ≡ filled n f old
+unfolding filled tab
+fill-none n f old e = rw e refl
 
 -- the next entry
 pub fill-next : (k : ℕ) (f : ℕ → ℕ) (old now : List ℕ) (v : ℕ) → k < length old → now ≡ filled k f old → v ≡ f k

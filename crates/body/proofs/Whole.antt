@@ -1,7 +1,7 @@
 -- The walk and the blocks: what is laid out in blocks is walked, and what is walked is laid out in blocks. Assumes nothing.
 use mathlib.Core.Path.{_≡_, refl, sym, ap, _∙_, subst}
 use mathlib.Core.List.{List, [], _∷_, _++_, append-assoc, append-nil}
-use mathlib.Core.Bool.{Bool, true, false, not, _&&_, and-false}
+use mathlib.Core.Bool.{Bool, true, false, not, _&&_, _||_, and-false}
 use Prim.Native.Nat.{ℕ, zero, suc, _+_, _%_, _/_, _^_, _≤_, _<_}
 use native.Mathlib.Omega.{arith}
 use native.Mathlib.Numerals.{add-one}
@@ -218,17 +218,16 @@ come-next sh bs k at m next raw there on found come =
       within = λ c. omega (arith, leb-false (sh .count) k (rw c at on));
     }
 
--- what is left to be said where the walk stops
-stop-says : (sh : Shape) (len k at : ℕ) → stopAt sh len k at ≡ true → (sh .counted ≡ true → (0 < sh .count) × (k ≤ sh .count))
-    → (sh .counted ≡ true → k ≡ sh .count) × (0 < k)
+-- where the walk stops at least one block is read, and no fewer than are counted
+pub stop-some : (sh : Shape) (len k at : ℕ) → stopAt sh len k at ≡ true → (sh .counted ≡ true → 0 < sh .count)
+    → (sh .counted ≡ true → sh .count ≤ k) × (0 < k)
 unfolding stopAt
-stop-says sh len k at s limits = go (sh .counted) refl s
+stop-some sh len k at s least = go (sh .counted) refl s
   where
-    go : (b : Bool) → sh .counted ≡ b → pick b (leb (sh .count) k) (ltb 0 k && leb len at) ≡ true → (sh .counted ≡ true → k ≡ sh .count) × (0 < k)
+    go : (b : Bool) → sh .counted ≡ b → pick b (leb (sh .count) k) (ltb 0 k && leb len at) ≡ true → (sh .counted ≡ true → sh .count ≤ k) × (0 < k)
     go true c s =
         let l : sh .count ≤ k = leb-true (sh .count) k s in
-        let h = limits c in
-        ((λ q. omega (arith, h .1)), omega (arith, h .0))
+        ((λ q. l), omega (arith, least c))
     go false c s =
         ((λ q. let z : _≡_ {A = ℕ} 0 1 = cc in absurd (omega arith)), ltb-true 0 k (and-true (ltb 0 k) (leb len at) s .0))
 
@@ -244,10 +243,10 @@ module _ (sh : Shape) (bs : List ℕ) (n : ℕ) (raw : Bytes bs) (least : sh .co
   holds-last k at now come s =
       let p = reading-end sh bs n k at now s in
       let e : k ≡ n = p .0 in
-      let says = stop-says sh (length bs) k at s (λ c. (least c, come .within c)) in
+      let says = stop-some sh (length bs) k at s least in
       let l : length (tab n (entryOn sh bs)) ≡ n = length-tab n (entryOn sh bs) in
       record {
-        counted = λ c. l ∙ sym e ∙ says .0 c;
+        counted = λ c. omega (arith, l, e, says .0 c, come .within c);
         some = omega (arith, says .1);
         is = sym (ap (λ (j : ℕ). take j bs) (p .1) ∙ take-length bs) ∙ rw (← e) (come .is);
         fit = rw (← e) (come .fit);
@@ -269,12 +268,13 @@ module _ (sh : Shape) (bs : List ℕ) (n : ℕ) (raw : Bytes bs) (least : sh .co
 
 -- ---- the channel word
 
--- what is known of the shape that a body opens to
-pub record Known (rule : TimeRule) (sh : Shape) : Type 0 where
+-- what is known of the shape that a body opens to: `message` says whether its type is 0x30, `word` is its channel word
+pub record Known (message : Bool) (rule : TimeRule) (word : ℕ) (sh : Shape) : Type 0 where
+  pub stamps : (message || leb (2 ^ 31) word) ≡ sh .stamped
   pub rule-is : sh .rule ≡ rule
   pub least : sh .counted ≡ true → 0 < sh .count
 
-known-message : (rule : TimeRule) (word : ℕ) (sh : Shape) → messageShape rule word ≡ Shaped sh → Known rule sh
+known-message : (rule : TimeRule) (word : ℕ) (sh : Shape) → messageShape rule word ≡ Shaped sh → Known true rule word sh
 unfolding messageShape
 known-message rule word sh e =
     let as-is : Shape = record { stamped = true; counted = true; count = pick (eqb (word / 2 ^ 16) 0) (word % 2 ^ 16) 1; rule = rule } in
@@ -283,22 +283,22 @@ known-message rule word sh e =
     (λ q. let z : _≡_ {A = ℕ} 0 1 = cc in omega arith) e in
     let is : as-is ≡ sh = cc (p .1) in
     let q = and-true (ltb word (2 ^ 18)) (counterOk (word / 2 ^ 16) (word % 2 ^ 16)) (p .0) in
-    record { rule-is = rw (← is) refl; least = λ c. rw (← is) (least (word / 2 ^ 16) (word % 2 ^ 16) (q .1)) }
+    record { stamps = rw (← is) refl; rule-is = rw (← is) refl; least = λ c. rw (← is) (least (word / 2 ^ 16) (word % 2 ^ 16) (q .1)) }
   where
     least : (t counter : ℕ) → counterOk t counter ≡ true → 0 < pick (eqb t 0) counter 1
     least zero zero e = let z : _≡_ {A = ℕ} 0 1 = cc in absurd (omega arith)
     least zero (suc counter) e = omega arith
     least (suc t) counter e = rw (ne-eqb (suc t) 0 (λ z. omega arith)) (omega arith)
 
-known-uart : (rule : TimeRule) (word : ℕ) (sh : Shape) → uartShape rule word ≡ Shaped sh → Known rule sh
+known-uart : (rule : TimeRule) (word : ℕ) (sh : Shape) → uartShape rule word ≡ Shaped sh → Known false rule word sh
 unfolding uartShape
 known-uart rule word sh e =
     let as-is : Shape = record { stamped = leb (2 ^ 31) word; counted = false; count = 0; rule = rule } in
     let p = picked (eqb (word % 2 ^ 31) 0) (Shaped as-is) Wrong (Shaped sh) (λ q. let z : _≡_ {A = ℕ} 0 1 = cc in omega arith) e in
     let is : as-is ≡ sh = cc (p .1) in
-    record { rule-is = rw (← is) refl; least = λ c. let d : sh .counted ≡ false = rw (← is) refl in let z : _≡_ {A = ℕ} 0 1 = cc in absurd (omega arith) }
+    record { stamps = rw (← is) refl; rule-is = rw (← is) refl; least = λ c. let d : sh .counted ≡ false = rw (← is) refl in let z : _≡_ {A = ℕ} 0 1 = cc in absurd (omega arith) }
 
-pub known : (kind : ℕ) (rule : TimeRule) (bs : List ℕ) (sh : Shape) → openBody kind rule bs ≡ Shaped sh → Known rule sh
+pub known : (kind : ℕ) (rule : TimeRule) (bs : List ℕ) (sh : Shape) → openBody kind rule bs ≡ Shaped sh → Known (eqb kind 0x30) rule (field bs 0 4) sh
 unfolding openBody
 known kind rule bs sh e =
     let w = field bs 0 4 in
@@ -308,7 +308,7 @@ known kind rule bs sh e =
     let q = passed (ltb (length bs) 4) Wrong x₁ (Shaped sh) (λ q. let z : _≡_ {A = ℕ} 0 1 = cc in omega arith) (p .1) in
     go (eqb kind 0x30) w (q .1)
   where
-    go : (t : Bool) (w : ℕ) → pick t (messageShape rule w) (uartShape rule w) ≡ Shaped sh → Known rule sh
+    go : (t : Bool) (w : ℕ) → pick t (messageShape rule w) (uartShape rule w) ≡ Shaped sh → Known t rule w sh
     go true w e = known-message rule w sh e
     go false w e = known-uart rule w sh e
 

@@ -7,14 +7,14 @@ ghost use Rattle.body.specs.Walk.{refused, fault};
 ghost use Rattle.body.specs.Answers.{checkBody, messageAt, listOf, messageIn, listAfter, startsOf, lengthsOf};
 
 mod list;
-mod opening;
+pub mod opening;
 pub mod time;
 pub mod walk;
 
-use list::list_shape;
-use list::pick_message;
-use opening::open_body;
-use walk::count_blocks;
+use list::fill_lists;
+use list::seek;
+use opening::opens_kind;
+use walk::walk_body;
 
 // How the times of a body's messages, or a secondary header's time, are formed.
 pub enum TimeRule {
@@ -61,6 +61,12 @@ pub enum Block {
     Broken(Refusal),
 }
 
+// What the walk over a body comes to, in plain numbers: how many messages there are, or 0 and the place of the first fault.
+pub struct Walked {
+    pub count: usize,
+    pub place: usize,
+}
+
 // The number of messages in a body, or the refusal.
 pub enum Checked {
     Counted(usize),
@@ -85,26 +91,34 @@ pub enum Listed {
 pub fn check_body(body: &[u8], kind: u8, rule: TimeRule) -> Checked
     ensures { λ r. ⌜ r ≡ checkBody kind rule (now (body .entry)) ⌝ }
 {
-    match open_body(body, kind, rule) {
-        Opened::Carried => Checked::Counted(0),
-        Opened::Shaped(shape) => count_blocks(body, shape),
-        Opened::Wrong => Checked::Faulty(fault(0)),
+    if !opens_kind(kind) {
+        return Checked::Counted(0);
     }
+    let walked = walk_body(body, kind, rule);
+    if walked.count == 0 {
+        return Checked::Faulty(fault(walked.place));
+    }
+    Checked::Counted(walked.count)
 }
 
 // The message of this number, from 0.
 pub fn message_at(body: &[u8], kind: u8, rule: TimeRule, number: usize) -> Picked
     ensures { λ r. ⌜ r ≡ messageAt kind rule (now (body .entry)) number ⌝ }
 {
-    match open_body(body, kind, rule) {
-        Opened::Carried => Picked::Missing,
-        Opened::Shaped(shape) => pick_message(body, shape, number),
-        Opened::Wrong => Picked::Unread(fault(0)),
+    match check_body(body, kind, rule) {
+        Checked::Counted(n) => {
+            if n <= number {
+                return Picked::Missing;
+            }
+            Picked::One(seek(body, kind, rule, n, number))
+        }
+        Checked::Faulty(f) => Picked::Unread(f),
     }
 }
 
 // Fills two lists with the start of each message, counted from `base` bytes ahead of the body, and its length.
 // Starts are 32-bit numbers, so the body ends within 2^32 bytes of where they are counted from.
+// All is counted first, so that the lists stay untouched unless there is room for all.
 pub fn list_messages(
     body: &[u8],
     base: usize,
@@ -118,10 +132,20 @@ pub fn list_messages(
     ensures { λ r. ⌜ now (starts .exit) ≡ listAfter r (startsOf base (messageIn kind rule (now (body .entry)))) (now (starts .entry)) ⌝ }
     ensures { λ r. ⌜ now (lengths .exit) ≡ listAfter r (lengthsOf (messageIn kind rule (now (body .entry)))) (now (lengths .entry)) ⌝ }
 {
-    match open_body(body, kind, rule) {
-        Opened::Carried => Listed::Count(0),
-        Opened::Shaped(shape) => list_shape(body, base, shape, starts, lengths),
-        Opened::Wrong => Listed::Unlisted(fault(0)),
+    match check_body(body, kind, rule) {
+        Checked::Counted(n) => {
+            if starts.len() < n {
+                return Listed::NoRoom(n);
+            }
+            if lengths.len() < n {
+                return Listed::NoRoom(n);
+            }
+            if n != 0 {
+                fill_lists(body, base, kind, rule, n, starts, lengths);
+            }
+            Listed::Count(n)
+        }
+        Checked::Faulty(f) => Listed::Unlisted(f),
     }
 }
 

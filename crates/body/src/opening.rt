@@ -1,5 +1,10 @@
 // The channel word of an opened body.
 ghost use mathlib.Core.Path.{_≡_};
+ghost use mathlib.Core.Bool.{true, _||_};
+ghost use Prim.Native.Nat.{_^_, _≤_};
+ghost use lib.ListN.{length};
+ghost use lib.Dec.{leb, eqb};
+ghost use Rattle.units.specs.Units.{field};
 ghost use Rattle.body.specs.Walk.{opens, counterOk, messageShape, uartShape, openBody};
 use crate::Opened;
 use crate::Shape;
@@ -26,14 +31,24 @@ fn message_shape(rule: TimeRule, word: u32) -> Opened
 {
     let form = word / 0x1_0000;
     let counter = word % 0x1_0000;
+    if form == 0 {
+        if counter == 0 {
+            return Opened::Wrong;
+        }
+        return Opened::Shaped(Shape {
+            stamped: true,
+            counted: true,
+            count: counter as usize,
+            rule,
+        });
+    }
     if !((word < 0x4_0000) & counter_ok(form, counter)) {
         return Opened::Wrong;
     }
-    let count = if form == 0 { counter as usize } else { 1 };
     Opened::Shaped(Shape {
         stamped: true,
         counted: true,
-        count,
+        count: 1,
         rule,
     })
 }
@@ -54,13 +69,11 @@ fn uart_shape(rule: TimeRule, word: u32) -> Opened
     Opened::Wrong
 }
 
-// What the type and the channel word say of a body.
+// What the channel word says of a body of an opened type.
 pub fn open_body(body: &[u8], kind: u8, rule: TimeRule) -> Opened
+    requires { ⌜ opens kind ≡ true ⌝ }
     ensures { λ r. ⌜ r ≡ openBody kind rule (now (body .entry)) ⌝ }
 {
-    if !opens_kind(kind) {
-        return Opened::Carried;
-    }
     if body.len() < 4 {
         return Opened::Wrong;
     }
@@ -70,4 +83,12 @@ pub fn open_body(body: &[u8], kind: u8, rule: TimeRule) -> Opened
     } else {
         uart_shape(rule, word)
     }
+}
+
+// Whether the blocks of a body of an opened type have time stamps.
+pub fn stamps(body: &[u8], kind: u8) -> bool
+    requires { ⌜ 4 ≤ length (now body) ⌝ }
+    ensures { λ r. ⌜ r ≡ (eqb kind 0x30 || leb (2 ^ 31) (field (now (body .entry)) 0 4)) ⌝ }
+{
+    (kind == 0x30) | (0x8000_0000 <= read32(body, 0))
 }

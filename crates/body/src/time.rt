@@ -1,6 +1,6 @@
 // Time rules, for message times and the secondary time alike.
 ghost use mathlib.Core.Path.{_≡_};
-ghost use Rattle.body.specs.Times.{timeOk, ruleOf};
+ghost use Rattle.body.specs.Times.{timeOk, ruleOf, maskOf, limitOf};
 use crate::TimeRule;
 
 // Whether a time is in form.
@@ -29,4 +29,27 @@ pub fn rule_of(number: u8) -> TimeRule
         return TimeRule::Ieee1588;
     }
     TimeRule::Extended
+}
+
+// A rule as two numbers, for a loop: the bits under the mask stay below the limit.
+pub fn mask_of(rule: TimeRule) -> u64
+    ensures { λ r. ⌜ r ≡ maskOf rule ⌝ }
+{
+    match rule {
+        TimeRule::Counter => 0xFFFF_FFFF_FFFF_FFFF,
+        TimeRule::Chapter4 => 0xFFFF,
+        TimeRule::Ieee1588 => 0xFFFF_FFFF,
+        TimeRule::Extended => 0,
+    }
+}
+
+pub fn limit_of(rule: TimeRule) -> u64
+    ensures { λ r. ⌜ r ≡ limitOf rule ⌝ }
+{
+    match rule {
+        TimeRule::Counter => 0x1_0000_0000_0000,
+        TimeRule::Chapter4 => 1,
+        TimeRule::Ieee1588 => 1_000_000_000,
+        TimeRule::Extended => 1,
+    }
 }

@@ -2,14 +2,18 @@
 ghost use mathlib.Core.Path.{_≡_};
 ghost use Prim.Native.Nat.{_+_, _^_, _≤_, _<_};
 ghost use lib.ListN.{length};
-ghost use Rattle.body.specs.Walk.{stampLength, headAt, blockEnd, judge, blockAt, stopAt, walk};
-use crate::Block;
-use crate::Checked;
+ghost use mathlib.Core.Bool.{true};
+ghost use Rattle.body.specs.Times.{maskOf, limitOf};
+ghost use Rattle.body.specs.Walk.{opens, stampLength, headAt, blockEnd, judge, blockAt, past, stopAt, walk};
+ghost use Rattle.body.specs.Answers.{checkBody, walked};
 use crate::Message;
+use crate::Opened;
 use crate::Shape;
 use crate::TimeRule;
-use crate::fault;
-use crate::time::time_ok;
+use crate::Walked;
+use crate::opening::open_body;
+use crate::time::limit_of;
+use crate::time::mask_of;
 use units::all_zero;
 use units::read32;
 use units::read64;
@@ -53,41 +57,41 @@ pub fn block_end(m: Message) -> usize
     m.start + m.length + m.length % 2
 }
 
-// The block at `at`, by what its head says.
-fn judge_block(body: &[u8], rule: TimeRule, at: usize, m: Message) -> Block
+// The place behind the block at `at`, by what its head says; 0 where it is at fault.
+fn judge_block(body: &[u8], rule: TimeRule, mask: u64, limit: u64, at: usize, m: Message) -> usize
+    requires { ⌜ (mask ≡ maskOf rule) × (limit ≡ limitOf rule) ⌝ }
     requires { ⌜ (at ≤ m .start) × (m .start ≤ length (now body)) × (m .length < 2 ^ 16) ⌝ }
-    ensures { λ r. ⌜ r ≡ judge rule (now (body .entry)) at m ⌝ }
+    ensures { λ r. ⌜ r ≡ past (judge rule (now (body .entry)) at m) ⌝ }
 {
     let pad = m.start + m.length;
     let next = block_end(m);
     if body.len() < next {
-        return Block::Broken(fault(at));
+        return 0;
     }
-    if !time_ok(rule, m.time) {
-        return Block::Broken(fault(at));
+    if limit <= m.time & mask {
+        return 0;
     }
     if m.length == 0 {
-        return Block::Broken(fault(at));
+        return 0;
     }
     if !all_zero(&body[pad..next]) {
-        return Block::Broken(fault(at));
+        return 0;
     }
-    Block::Found(m, next)
+    next
 }
 
-// The block at `at`: the message and the place behind it, or the refusal.
-fn next_block(body: &[u8], at: usize, shape: Shape) -> Block
-    ensures { λ r. ⌜ r ≡ blockAt shape (now (body .entry)) at ⌝ }
+// The place behind the block at `at`; 0 where it is at fault. A plain number: an enum would go through memory.
+fn next_block(body: &[u8], at: usize, shape: Shape, mask: u64, limit: u64) -> usize
+    requires { ⌜ (mask ≡ maskOf (shape .rule)) × (limit ≡ limitOf (shape .rule)) ⌝ }
+    requires { ⌜ at ≤ length (now body) ⌝ }
+    ensures { λ r. ⌜ r ≡ past (blockAt shape (now (body .entry)) at) ⌝ }
 {
-    if body.len() <= at {
-        return Block::Broken(fault(at));
-    }
     if body.len() < at + stamp_length(shape.stamped) + 4 {
-        return Block::Broken(fault(at));
+        return 0;
     }
     let m = head_at(body, at, shape.stamped);
     let rule = shape.rule;
-    judge_block(body, rule, at, m)
+    judge_block(body, rule, mask, limit, at, m)
 }
 
 // Whether no more blocks are to come after k, where the next would stand at `at`.
@@ -101,26 +105,51 @@ fn stop_at(shape: Shape, len: usize, k: usize, at: usize) -> bool
 }
 
 // The number of blocks behind the channel word, or the first fault.
-pub fn count_blocks(body: &[u8], shape: Shape) -> Checked
+fn count_blocks(body: &[u8], shape: Shape) -> Walked
     requires { ⌜ 4 ≤ length (now body) ⌝ }
-    ensures { λ r. ⌜ r ≡ walk shape (now (body .entry)) ⌝ }
+    ensures { λ r. ⌜ r ≡ walked (walk shape (now (body .entry))) ⌝ }
 {
+    let rule = shape.rule;
+    let mask = mask_of(rule);
+    let limit = limit_of(rule);
     let mut k: usize = 0;
     let mut at: usize = 4;
     while !stop_at(shape, body.len(), k, at) {
-        match next_block(body, at, shape) {
-            Block::Found(_, next) => {
-                at = next;
-                k += 1;
-            }
-            Block::Broken(f) => {
-                return Checked::Faulty(f);
-            }
+        let next = next_block(body, at, shape, mask, limit);
+        if next == 0 {
+            return Walked {
+                count: 0,
+                place: at,
+            };
         }
+        at = next;
+        k += 1;
     }
     if at == body.len() {
-        Checked::Counted(k)
+        Walked { count: k, place: 0 }
     } else {
-        Checked::Faulty(fault(at))
+        Walked {
+            count: 0,
+            place: at,
+        }
+    }
+}
+
+// The walk over a body of an opened type: its messages, or its first fault. The part is the whole, as in units::data_sum.
+pub fn walk_body(body: &[u8], kind: u8, rule: TimeRule) -> Walked
+    requires { ⌜ opens kind ≡ true ⌝ }
+    ensures { λ r. ⌜ r ≡ walked (checkBody kind rule (now (body .entry))) ⌝ }
+{
+    walk_whole(&body[0..], kind, rule)
+}
+
+fn walk_whole(body: &[u8], kind: u8, rule: TimeRule) -> Walked
+    requires { ⌜ opens kind ≡ true ⌝ }
+    ensures { λ r. ⌜ r ≡ walked (checkBody kind rule (now (body .entry))) ⌝ }
+{
+    match open_body(body, kind, rule) {
+        Opened::Carried => Walked { count: 0, place: 0 },
+        Opened::Shaped(shape) => count_blocks(body, shape),
+        Opened::Wrong => Walked { count: 0, place: 0 },
     }
 }

@@ -1,6 +1,7 @@
 // The C interface: each public call of the library, with its result in a lent struct of 64-bit words (include/ch11.h).
 // Each returns the refusal's number, 0 for none, which is also the struct's first word; specs/Calls.antt says all that it leaves behind.
 ghost use Rattle.ch11.specs.Calls.{ReadPacket, ListMessages, GiveMessage, ReadRecording, WritePacket, Open, Add, Close};
+use packet::PacketRead;
 use packet::list_messages;
 use packet::message;
 use packet::read_packet;
@@ -29,8 +30,19 @@ pub extern "C" fn ch11_read_packet(
 ) -> u64
     ensures { λ r. ⌜ ReadPacket (now (buf .entry)) start end r (now (packet .exit)) ⌝ }
 {
-    *packet = packet_words(read_packet(buf, start, end));
-    packet[0]
+    match read_packet(buf, start, end) {
+        PacketRead::Accepted(p) => {
+            *packet = packet_words(p);
+            0
+        }
+        PacketRead::Refused(f) => {
+            *packet = [0; 24];
+            packet[0] = f.number as u64;
+            packet[1] = f.place as u64;
+            packet[2] = f.room as u64;
+            f.number as u64
+        }
+    }
 }
 
 // Lists the messages of the packet at the start of a window: packet::list_messages.

@@ -1,73 +1,46 @@
 // An answer as the words of its struct.
 ghost use mathlib.Core.Path.{_≡_};
 ghost use Rattle.packet.specs.Read.{told};
+ghost use Rattle.packet.specs.declared.PacketRead.the-variants.{Accepted};
 ghost use Rattle.packet.specs.Messages.{listTold, messageTold};
 ghost use Rattle.packet.specs.Write.{writeTold};
 ghost use Rattle.ch11.specs.Words.{packetWords, listWords, messageWords, recordingWords, writtenWords};
+use packet::Packet;
 use packet::PacketList;
 use packet::PacketMessage;
-use packet::PacketRead;
 use packet::PacketWrite;
 use recording::Recording;
 
-// struct ch11_packet.
-pub fn packet_words(answer: PacketRead) -> [u64; 24]
-    ensures { λ r. ⌜ r ≡ packetWords (told answer) ⌝ }
+// struct ch11_packet of an accepted packet.
+pub fn packet_words(p: Packet) -> [u64; 24]
+    ensures { λ r. ⌜ r ≡ packetWords (told (Accepted p)) ⌝ }
 {
-    match answer {
-        PacketRead::Accepted(p) => [
-            0,
-            0,
-            0,
-            p.fields.channel as u64,
-            p.fields.version as u64,
-            p.fields.sequence as u64,
-            p.fields.flags as u64,
-            p.fields.kind as u64,
-            p.fields.rtc,
-            p.fields.time,
-            p.length as u64,
-            p.datalength as u64,
-            p.headsum as u64,
-            p.datasum as u64,
-            p.header.at as u64,
-            p.header.length as u64,
-            p.secondary.at as u64,
-            p.secondary.length as u64,
-            p.body.at as u64,
-            p.body.length as u64,
-            p.filler.at as u64,
-            p.filler.length as u64,
-            p.sum.at as u64,
-            p.sum.length as u64,
-        ],
-        PacketRead::Refused(f) => [
-            f.number as u64,
-            f.place as u64,
-            f.room as u64,
-            0,
-            0,
-            0,
-            0,
-            0,
-            0,
-            0,
-            0,
-            0,
-            0,
-            0,
-            0,
-            0,
-            0,
-            0,
-            0,
-            0,
-            0,
-            0,
-            0,
-            0,
-        ],
-    }
+    [
+        0,
+        0,
+        0,
+        p.fields.channel as u64,
+        p.fields.version as u64,
+        p.fields.sequence as u64,
+        p.fields.flags as u64,
+        p.fields.kind as u64,
+        p.fields.rtc,
+        p.fields.time,
+        p.length as u64,
+        p.datalength as u64,
+        p.headsum as u64,
+        p.datasum as u64,
+        p.header.at as u64,
+        p.header.length as u64,
+        p.secondary.at as u64,
+        p.secondary.length as u64,
+        p.body.at as u64,
+        p.body.length as u64,
+        p.filler.at as u64,
+        p.filler.length as u64,
+        p.sum.at as u64,
+        p.sum.length as u64,
+    ]
 }
 
 // struct ch11_list.

@@ -1,5 +1,5 @@
 -- What a window whose frame is let through says, rule by rule, and that what stands behind its packet has no say. Assumes nothing.
-use mathlib.Core.Path.{_≡_, sym, ap, _∙_}
+use mathlib.Core.Path.{_≡_, refl, sym, ap, _∙_}
 use mathlib.Core.List.{List, _++_}
 use mathlib.Core.Bool.{Bool, true, false, _&&_}
 use Prim.Native.Nat.{ℕ, _+_, _-_, _%_, _≤_, _<_}
@@ -7,10 +7,10 @@ use native.Mathlib.Omega.{arith}
 use lib.ListN.{length, take, drop, length-append, List·getD-append, take-append-drop}
 use lib.Seq.{length-take-le}
 use lib.Dec.{T, eqb, leb}
-use borrow.Author.Tests.{eqb-true, eq-eqb, leb-true, le-leb}
+use borrow.Author.Tests.{eqb-true, eq-eqb, leb-true, le-leb, lt-leb}
 use Rattle.units.specs.Units.{summed}
 use Rattle.units.specs.Choice.{pick}
-use Rattle.units.proofs.Choices.{and-true}
+use Rattle.units.proofs.Choices.{and-true, same-test}
 use Rattle.units.proofs.Parts.{part-front, field-front}
 use Rattle.units.proofs.Sums.{sum-prefix}
 use Rattle.frame.specs.Header.{byte, channelIn, packetLength, dataLength, versionIn, flagsIn, kindIn, headerSumIn, secondaryLength, sumLength, bodyAt, unfilledLength, lengthFor, fillerAt, sumAt, fillerLength, secondaryIn, bodyIn, fillerIn, bodyAndFillerIn, dataSumIn, fieldsIn}
@@ -195,6 +195,39 @@ length-kept kind flags d some within =
       le-leb (unfilledLength flags d) p (omega arith),
       le-leb p (unfilledLength flags d + 3) (omega arith),
     )
+
+-- the code's tests of the lengths
+pub limit-small : (kind p : ℕ) → p ≤ 524288 → true ≡ leb p (limit kind)
+unfolding limit
+limit-small kind p h = go (eqb kind 0x01)
+  where
+    go : (b : Bool) → true ≡ leb p (pick b 134217728 524288)
+    go true = sym (le-leb p 134217728 (omega arith))
+    go false = sym (le-leb p 524288 h)
+
+pub limit-large : (kind p : ℕ) → 524288 < p → (eqb kind 0x01 && leb p 134217728) ≡ leb p (limit kind)
+unfolding limit
+limit-large kind p h = go (eqb kind 0x01)
+  where
+    go : (b : Bool) → (b && leb p 134217728) ≡ leb p (pick b 134217728 524288)
+    go true = refl
+    go false = sym (lt-leb p 524288 h)
+
+pub lengths-test : (kind flags p d q : ℕ) (within : Bool) → q ≡ lengthFor flags d → within ≡ leb p (limit kind)
+    → (eqb p q && within && leb 1 d) ≡ lengthsOk kind flags p d
+lengths-test kind flags p d q within is l = rw (is, l) (same-test _ (lengthsOk kind flags p d) kept made)
+  where
+    kept : (eqb p (lengthFor flags d) && leb p (limit kind) && leb 1 d) ≡ true → lengthsOk kind flags p d ≡ true
+    kept t =
+        let a = and-true (eqb p (lengthFor flags d) && leb p (limit kind)) (leb 1 d) t in
+        let b = and-true (eqb p (lengthFor flags d)) (leb p (limit kind)) (a .0) in
+        let e : p ≡ lengthFor flags d = eqb-true p (lengthFor flags d) (b .0) in
+        rw e (length-kept kind flags d (leb-true 1 d (a .1)) (leb-true (lengthFor flags d) (limit kind) (rw e at (b .1))))
+
+    made : lengthsOk kind flags p d ≡ true → (eqb p (lengthFor flags d) && leb p (limit kind) && leb 1 d) ≡ true
+    made t =
+        let l = lengths-say kind flags p d t in
+        rw (eq-eqb p (lengthFor flags d) (length-is kind flags p d t), le-leb p (limit kind) (l .within), le-leb 1 d (l .some))
 
 pub sound : (w : List ℕ) → first (headLines w) ≡ 0 → first (valuesIn w) ≡ 0 → first (wholeLines w) ≡ 0 → Sound w
 unfolding wholeLines

@@ -1,16 +1,17 @@
 -- The code's tests are the table's: each rule of bytes from what the code compares, and the table from its parts. Assumes nothing.
 use mathlib.Core.Path.{_≡_, sym, _∙_}
 use mathlib.Core.List.{List, [], _++_}
-use mathlib.Core.Bool.{Bool, _&&_}
+use mathlib.Core.Bool.{Bool, true, _&&_}
 use Prim.Native.Nat.{ℕ, _+_, _-_, _%_, _≤_, _<_}
 use native.Mathlib.Omega.{arith}
+use native.Mathlib.Nat.{mod-one}
 use lib.ListN.{length}
 use lib.Dec.{T, eqb}
 use borrow.Author.Tests.{le-leb, lt-leb}
 use Rattle.units.specs.Units.{part, num, field, sumUnits, sumWidth, secondarySum, dataSum, summed, zeros}
 use Rattle.units.proofs.Parts.{field-part}
 use Rattle.body.proofs.Blocks.{zero-ok}
-use Rattle.frame.specs.Header.{packetLength, flagsIn, secondaryBit, timeIn}
+use Rattle.frame.specs.Header.{packetLength, flagsIn, secondaryBit, timeIn, sumAt, bodyAndFillerIn}
 use Rattle.frame.specs.Rules.{secondaryTimeOk, secondarySummed, secondaryOk, dataSummed, fillerOk}
 use Rattle.frame.specs.Table.{Line, first, wholeLines, secondaryLines}
 use Rattle.frame.specs.Inner.{Measured}
@@ -59,6 +60,14 @@ secondary-ok-is w x t b e p q r = rw (r, e, p, q)
 pub data-summed-is : (w : List ℕ) (l : Layout) (x y : ℕ) → Measured w l → x ≡ dataSum (flagsIn w % 4) (part w (l .body) (l .sum - l .body))
     → y ≡ field w (l .sum) (sumWidth (flagsIn w % 4)) → eqb x y ≡ dataSummed w
 data-summed-is w l x y m p q = rw (p, q, m .body, m .sum)
+
+-- where no sum is, 0 is 0
+no-sum : (bs w : List ℕ) (at code : ℕ) → code ≡ 0 → true ≡ eqb (dataSum code bs) (field w at (sumWidth code))
+unfolding num
+no-sum bs w at code z = rw (z, mod-one)
+
+pub sumless : (w : List ℕ) → flagsIn w % 4 ≡ 0 → true ≡ dataSummed w
+sumless w z = no-sum (bodyAndFillerIn w) w (sumAt w) (flagsIn w % 4) z
 
 pub filler-is : (w : List ℕ) (l : Layout) (b : Bool) → Measured w l → b ≡ zeros (part w (l .filler) (l .sum - l .filler)) → b ≡ fillerOk w
 filler-is w l b m p = rw (p, m .filler, m .sum)

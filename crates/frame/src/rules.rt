@@ -1,8 +1,9 @@
 // The rules of plain numbers, for reader and writer alike, and the lengths of a packet's parts.
 ghost use mathlib.Core.Path.{_≡_};
 ghost use Prim.Native.Nat.{_+_, _%_, _^_, _≤_, _<_};
+ghost use lib.Dec.{leb};
 ghost use Rattle.frame.specs.Header.{sumLength, bodyAt, unfilledLength, lengthFor};
-ghost use Rattle.frame.specs.Rules.{versionOk, typeOk, flagsOk, channelOk, limit as Rules·limit, lengthsOk, secondaryTimeOk, messageRule};
+ghost use Rattle.frame.specs.Rules.{versionOk, typeOk, flagsOk, channelOk, limit, lengthsOk, secondaryTimeOk, messageRule};
 ghost use Rattle.frame.specs.Table.{first, valueLines};
 use body::TimeRule;
 use body::time::rule_of;
@@ -14,36 +15,30 @@ fn version_ok(version: u8) -> bool
     (1 <= version) & (version <= 9)
 }
 
+// The defined types below 0x40, and those from there to 0x7F: bit n is type n, or 0x40 + n.
+const LOW_TYPES: u64 = 0x0101_0202_0606_061F;
+
+const HIGH_TYPES: u64 = 0x0707_0301_0301_071F;
+
 fn type_ok(kind: u8) -> bool
     ensures { λ r. ⌜ r ≡ typeOk kind ⌝ }
 {
-    (kind <= 0x04)
-        | (kind == 0x09)
-        | (kind == 0x0A)
-        | (kind == 0x11)
-        | (kind == 0x12)
-        | (kind == 0x19)
-        | (kind == 0x1A)
-        | (kind == 0x21)
-        | (kind == 0x29)
-        | (kind == 0x30)
-        | (kind == 0x38)
-        | ((0x40 <= kind) & (kind <= 0x44))
-        | ((0x48 <= kind) & (kind <= 0x4A))
-        | (kind == 0x50)
-        | (kind == 0x58)
-        | (kind == 0x59)
-        | (kind == 0x60)
-        | (kind == 0x68)
-        | (kind == 0x69)
-        | ((0x70 <= kind) & (kind <= 0x72))
-        | ((0x78 <= kind) & (kind <= 0x7A))
+    if kind < 64 {
+        return (LOW_TYPES >> kind) % 2 == 1;
+    }
+    if kind < 128 {
+        return (HIGH_TYPES >> (kind - 64)) % 2 == 1;
+    }
+    false
 }
+
+// The flags that may be, by their bits 7-2: bit n is the flags 4 n to 4 n + 3.
+const FLAGS: u64 = 0x7777_7777_0000_7777;
 
 fn flags_ok(flags: u8) -> bool
     ensures { λ r. ⌜ r ≡ flagsOk flags ⌝ }
 {
-    (flags / 4 % 4 != 3) & ((flags / 64 % 2 == 0) | (flags / 128 % 2 == 1))
+    (FLAGS >> (flags / 4)) % 2 == 1
 }
 
 fn channel_ok(channel: u16, kind: u8) -> bool
@@ -52,11 +47,14 @@ fn channel_ok(channel: u16, kind: u8) -> bool
     (channel != 0) | (kind == 0x01) | (kind == 0x04)
 }
 
-// The most that P may be.
-fn limit(kind: u8) -> u64
-    ensures { λ r. ⌜ r ≡ Rules·limit kind ⌝ }
+// Whether P is at most what it may be.
+fn within_limit(kind: u8, p: u64) -> bool
+    ensures { λ r. ⌜ r ≡ leb p (limit kind) ⌝ }
 {
-    if kind == 0x01 { 134_217_728 } else { 524_288 }
+    if p <= 524_288 {
+        return true;
+    }
+    (kind == 0x01) & (p <= 134_217_728)
 }
 
 // The data sum's width in bytes.
@@ -90,16 +88,14 @@ pub fn length_for(flags: u8, d: u64) -> u64
     requires { ⌜ d < 2 ^ 63 ⌝ }
     ensures { λ r. ⌜ (r ≡ lengthFor flags d) × (r < 2 ^ 63 + 44) ⌝ }
 {
-    let parts = unfilled_length(flags, d);
-    parts + (4 - parts % 4) % 4
+    (unfilled_length(flags, d) + 3) / 4 * 4
 }
 
 fn lengths_ok(kind: u8, flags: u8, p: u64, d: u64) -> bool
     requires { ⌜ d < 2 ^ 63 ⌝ }
     ensures { λ r. ⌜ r ≡ lengthsOk kind flags p d ⌝ }
 {
-    let parts = unfilled_length(flags, d);
-    (p % 4 == 0) & (p <= limit(kind)) & (1 <= d) & (parts <= p) & (p <= parts + 3)
+    (p == length_for(flags, d)) & within_limit(kind, p) & (1 <= d)
 }
 
 // 5 to 9 of the table, or 0.

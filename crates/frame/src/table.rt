@@ -23,8 +23,14 @@ use units::read48;
 use units::read64;
 use units::secondary_sum;
 
-// The first of 2 to 14 that applies, or 0.
+// The first of 2 to 14 that applies, or 0. The part is the whole, as in units::data_sum.
 pub fn frame_refusal(w: &[u8]) -> u8
+    ensures { λ r. ⌜ r ≡ first (frameLines (now (w .entry))) ⌝ }
+{
+    first_refusal(&w[0..])
+}
+
+fn first_refusal(w: &[u8]) -> u8
     ensures { λ r. ⌜ r ≡ first (frameLines (now (w .entry))) ⌝ }
 {
     let head = head_refusal(w);
@@ -161,16 +167,17 @@ fn time_in(w: &[u8]) -> u64
     read64(w, 24)
 }
 
-// 13 and 14, or 0.
+// 13 and 14, or 0. The data sum is worked out last, when little is left to be kept beside it.
 fn trailer_refusal(w: &[u8]) -> u8
     requires { ⌜ Sound (now w) ⌝ }
     ensures { λ r. ⌜ r ≡ first (trailerLines (now (w .entry))) ⌝ }
 {
     let layout = measure(w);
+    let cleared = filler_ok(w, layout);
     if !data_summed(w, layout) {
         return 13;
     }
-    if !filler_ok(w, layout) {
+    if !cleared {
         return 14;
     }
     0
@@ -184,7 +191,11 @@ fn data_summed(w: &[u8], layout: Layout) -> bool
     let body = layout.body;
     let sum = layout.sum;
     let code = w[14] % 4;
-    data_sum(&w[body..sum], code) == read_sum(w, sum, code)
+    if code == 0 {
+        return true;
+    }
+    let stored = read_sum(w, sum, code);
+    data_sum(&w[body..sum], code) == stored
 }
 
 fn filler_ok(w: &[u8], layout: Layout) -> bool

@@ -12,7 +12,7 @@ use Rattle.units.specs.Units.{part, field}
 use Rattle.units.specs.Choice.{pick}
 use Rattle.units.proofs.Choices.{and-true}
 use Rattle.units.proofs.Parts.{length-part}
-use Rattle.body.specs.Walk.{refused, fault}
+use Rattle.body.specs.Walk.{refused, fault, opens, openBody}
 use Rattle.body.specs.Answers.{checkBody, messageIn, messageAt, pickCounted, listOf, listCounted, startsOf, lengthsOf, listAfter as Body·listAfter}
 use Rattle.body.proofs.Bounds.{faulty-place, message-fits}
 use Rattle.body.specs.declared.TimeRule.{TimeRule}
@@ -32,11 +32,12 @@ use Rattle.frame.specs.declared.Layout.{Layout}
 use Rattle.frame.specs.declared.Fields.{Fields}
 use Rattle.frame.proofs.Tables.{stands, passes, holds}
 use Rattle.frame.proofs.Frames.{frame-sound}
-use Rattle.packet.specs.Read.{inside, window, outerLines, outerRefusal, partAt, packetIn, bodyChecked, bodyAnswer, readPacket}
+use Rattle.packet.specs.Read.{inside, window, outerLines, outerRefusal, partAt, packetIn, bodyChecked, bodyAnswer, readPacket, passOf}
 use Rattle.packet.specs.Messages.{countOf, messageCount, kthMessage, listAnswer, listPacket, listAfter, starts, lengths, messageAnswer, messagePacket}
 use Rattle.packet.specs.declared.Packet.{Packet}
 use Rattle.packet.specs.declared.PacketRead.{PacketRead}
 use Rattle.packet.specs.declared.PacketRead.the-variants.{Accepted, Refused}
+use Rattle.packet.specs.declared.PacketPass.the-variants.{Passed, Barred}
 use Rattle.packet.specs.declared.PacketList.{PacketList}
 use Rattle.packet.specs.declared.PacketList.the-variants.{Listed, Unlisted}
 use Rattle.packet.specs.declared.PacketMessage.{PacketMessage}
@@ -144,15 +145,39 @@ module _ (w : List ℕ) (l : Layout) (m : Measured w l) (rule : TimeRule) (ruled
       let p = faulty-place (kindIn w) rule (part w (l .body) (l .filler - l .body)) f e in
       omega (arith, p, body-length s, m .body, s .parts, s .there)
 
-module _ (c : Checked) (w : List ℕ) (at : ℕ) (is : c ≡ bodyChecked w) where
-  pub answer-counted : (n : ℕ) (p : Packet) → c ≡ Counted n → p ≡ packetIn w at → Accepted p ≡ bodyAnswer (bodyChecked w) w at
-  unfolding bodyAnswer
-  answer-counted n p e q = rw (← is, e, q)
+-- ---- the answer to a reader of many packets
 
-  pub answer-faulty : (f r : Refusal) (body : ℕ) → c ≡ Faulty f → body ≡ bodyAt (flagsIn w) → r ≡ fault (at + body + f .place)
-      → Refused r ≡ bodyAnswer (bodyChecked w) w at
+module _ (w : List ℕ) (at : ℕ) where
+  -- a type that isn't opened
+  pub pass-carried : (p : ℕ) → p ≡ packetLength w → opens (kindIn w) ≡ false → Passed p ≡ passOf (bodyAnswer (bodyChecked w) w at)
+  unfolding bodyAnswer bodyChecked checkBody openBody packetIn
+  pass-carried p q e = rw (e, q)
+
+  pub pass-counted : (n p : ℕ) → bodyChecked w ≡ Counted n → p ≡ packetLength w → Passed p ≡ passOf (bodyAnswer (bodyChecked w) w at)
+  unfolding bodyAnswer packetIn
+  pass-counted n p e q = rw (e, q)
+
+  pub pass-faulty : (f r : Refusal) (body : ℕ) → bodyChecked w ≡ Faulty f → body ≡ bodyAt (flagsIn w) → r ≡ fault (at + body + f .place)
+      → Barred r ≡ passOf (bodyAnswer (bodyChecked w) w at)
   unfolding bodyAnswer
-  answer-faulty f r body e b q = rw (← is, e, q, b)
+  pass-faulty f r body e b q = rw (e, q, b)
+
+  pub passed-framed : (n : ℕ) (p : Packet) → Passed n ≡ passOf (bodyAnswer (bodyChecked w) w at) → p ≡ packetIn w at → Accepted p ≡ bodyAnswer (bodyChecked w) w at
+  unfolding bodyAnswer
+  passed-framed n p e q = go (bodyChecked w) e
+    where
+      go : (c : Checked) → Passed n ≡ passOf (bodyAnswer c w at) → Accepted p ≡ bodyAnswer c w at
+      go (Counted k) _ = ap Accepted q
+      go (Faulty f) e = let z : _≡_ {A = ℕ} 0 1 = cc in absurd (omega arith)
+
+-- it refuses as the reader does, and passes what that accepts, by its length
+pub barred-is : (x : PacketRead) (r : Refusal) → Barred r ≡ passOf x → Refused r ≡ x
+barred-is (Accepted p) r e = let z : _≡_ {A = ℕ} 0 1 = cc in absurd (omega arith)
+barred-is (Refused q) r e = cc
+
+pub passed-is : (x : PacketRead) (n : ℕ) → Passed n ≡ passOf x → (p : Packet) × (x ≡ Accepted p) × (n ≡ p .length)
+passed-is (Accepted p) n e = (p, refl, cc)
+passed-is (Refused r) n e = let z : _≡_ {A = ℕ} 0 1 = cc in absurd (omega arith)
 
 -- the packet's record
 pub packet-is : (w : List ℕ) (at : ℕ) (l : Layout) (f : Fields) (p d h x : ℕ) → Sound w → Measured w l → f ≡ fieldsIn w → p ≡ packetLength w → d ≡ dataLength w

@@ -3,20 +3,21 @@ ghost use mathlib.Core.Path.{_≡_};
 ghost use Prim.Native.Nat.{_+_, _^_, _<_, min};
 ghost use lib.ListN.{length};
 ghost use Rattle.frame.specs.Inner.{Sound};
-ghost use Rattle.packet.specs.Read.{outerRefusal, packetIn, bodyChecked, bodyAnswer};
+ghost use Rattle.packet.specs.Read.{outerRefusal, packetIn, bodyChecked, bodyAnswer, passOf};
 ghost use Rattle.packet.specs.Messages.{messageCount, kthMessage, listAnswer, listAfter, starts as Messages·starts, lengths as Messages·lengths, messageAnswer};
 use crate::Packet;
 use crate::PacketList;
 use crate::PacketMessage;
+use crate::PacketPass;
 use crate::PacketRead;
 use crate::Part;
-use body::Checked;
 use body::Listed;
 use body::Message;
 use body::Picked;
-use body::check_body;
 use body::fault;
+use body::opening::opens_kind;
 use body::refuse;
+use body::walk::walk_body;
 use frame::head::read_sum;
 use frame::rules::message_rule;
 use frame::table::fields_in;
@@ -38,18 +39,36 @@ pub fn outer_refusal(buf: &[u8], start: usize, end: usize) -> u8
     frame_refusal(&buf[start..end])
 }
 
+// 15, or the packet's length. A type that isn't opened leaves at once.
+pub fn pass_framed(w: &[u8], at: usize) -> PacketPass
+    requires { ⌜ Sound (now w) ⌝ }
+    requires { ⌜ at + length (now w) < 2 ^ 64 ⌝ }
+    ensures { λ r. ⌜ r ≡ passOf (bodyAnswer (bodyChecked (now (w .entry))) (now (w .entry)) at) ⌝ }
+{
+    let length = read32(w, 4);
+    let kind = w[15];
+    if !opens_kind(kind) {
+        return PacketPass::Passed(length);
+    }
+    let layout = measure(w);
+    let body = layout.body;
+    let filler = layout.filler;
+    let walked = walk_body(&w[body..filler], kind, message_rule(w[14]));
+    if walked.count == 0 {
+        return PacketPass::Barred(fault(at + body + walked.place));
+    }
+    PacketPass::Passed(length)
+}
+
 // 15, or the packet.
 pub fn read_framed(w: &[u8], at: usize) -> PacketRead
     requires { ⌜ Sound (now w) ⌝ }
     requires { ⌜ at + length (now w) < 2 ^ 64 ⌝ }
     ensures { λ r. ⌜ r ≡ bodyAnswer (bodyChecked (now (w .entry))) (now (w .entry)) at ⌝ }
 {
-    let layout = measure(w);
-    let body = layout.body;
-    let filler = layout.filler;
-    match check_body(&w[body..filler], w[15], message_rule(w[14])) {
-        Checked::Counted(_) => PacketRead::Accepted(packet_in(w, at)),
-        Checked::Faulty(f) => PacketRead::Refused(fault(at + body + f.place)),
+    match pass_framed(w, at) {
+        PacketPass::Passed(_) => PacketRead::Accepted(packet_in(w, at)),
+        PacketPass::Barred(refusal) => PacketRead::Refused(refusal),
     }
 }
 

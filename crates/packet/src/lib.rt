@@ -2,7 +2,8 @@
 // A window is a buffer, a start and a filled end; nothing outside it has a say.
 ghost use mathlib.Core.Path.{_≡_};
 ghost use lib.ListN.{length};
-ghost use Rattle.packet.specs.Read.{window, readPacket};
+ghost use Prim.Native.Nat.{_≤_};
+ghost use Rattle.packet.specs.Read.{window, readPacket, passOf};
 ghost use Rattle.packet.specs.Messages.{listPacket, listAfter, starts as Messages·starts, lengths as Messages·lengths, messagePacket};
 ghost use Rattle.packet_bytes.specs.Bytes.{packetBytes};
 ghost use Rattle.packet.specs.Write.{writePacket, outAfter};
@@ -11,6 +12,7 @@ use body::Refusal;
 use body::refuse;
 use frame::Fields;
 use frame::rules::length_for;
+use frame::table::frame_refusal;
 use packet_bytes::put_packet;
 
 mod framed;
@@ -19,6 +21,7 @@ mod writing;
 use framed::list_framed;
 use framed::message_framed;
 use framed::outer_refusal;
+use framed::pass_framed;
 use framed::read_framed;
 use writing::fit;
 use writing::writer_refusal;
@@ -49,6 +52,12 @@ pub enum PacketRead {
     Refused(Refusal),
 }
 
+// What a reader of many packets asks of each: its length, or the refusal.
+pub enum PacketPass {
+    Passed(u32),
+    Barred(Refusal),
+}
+
 // The number of messages listed, or the refusal.
 pub enum PacketList {
     Listed(usize),
@@ -76,6 +85,18 @@ pub fn read_packet(buf: &[u8], start: usize, end: usize) -> PacketRead
         return PacketRead::Refused(refuse(number, start, 0));
     }
     read_framed(&buf[start..end], start)
+}
+
+// The one-packet reader's answer without the record, in a window that is known to be inside its buffer.
+pub fn pass_packet(buf: &[u8], start: usize, end: usize) -> PacketPass
+    requires { ⌜ (start ≤ end) × (end ≤ length (now buf)) ⌝ }
+    ensures { λ r. ⌜ r ≡ passOf (readPacket (now (buf .entry)) start end) ⌝ }
+{
+    let number = frame_refusal(&buf[start..end]);
+    if number != 0 {
+        return PacketPass::Barred(refuse(number, start, 0));
+    }
+    pass_framed(&buf[start..end], start)
 }
 
 // Lists the start, counted from the packet's first byte, and the length of each message of the packet at the start of a window.

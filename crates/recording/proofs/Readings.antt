@@ -11,10 +11,12 @@ use borrow.Author.Tests.{le-leb, lt-leb}
 use Rattle.units.specs.Choice.{pick}
 use Rattle.body.specs.Walk.{refused}
 use Rattle.body.specs.declared.Refusal.{Refusal}
-use Rattle.packet.specs.Read.{inside, readPacket, noRefusal}
+use Rattle.packet.specs.Read.{inside, readPacket, passOf, noRefusal}
 use Rattle.packet.specs.declared.Packet.{Packet}
 use Rattle.packet.specs.declared.PacketRead.{PacketRead}
 use Rattle.packet.specs.declared.PacketRead.the-variants.{Accepted, Refused}
+use Rattle.packet.specs.declared.PacketPass.the-variants.{Passed}
+use Rattle.packet.proofs.Answers.{passed-is}
 use Rattle.packet.proofs.Own.{fits}
 use Rattle.recording.specs.Reading.{Reading, stopped, ahead, onward, readFrom, reading, readRecording}
 use Rattle.recording.specs.declared.Recording.{Recording}
@@ -122,6 +124,13 @@ module _ (buf : List ℕ) (start end : ℕ) where
           fewer = omega arith;
           answer = c .answer ∙ rw (from-on buf at end p h q) (λ i. record { accepted = one-more i; reached = r .reached; refusal = r .refusal });
         }
+
+    -- a packet that passes, by its length
+    pub counting-passed : (p : ℕ) → at < end → Passed p ≡ passOf (readPacket buf at end) → Counting buf start end (n + 1) (at + p) × (at < at + p) × (at + p ≤ end)
+    counting-passed p h e =
+        let (q, a, l) = passed-is (readPacket buf at end) p e in
+        let k = fits buf at end q a in
+        rw l (counting-on q h a, omega (arith, k .some), k .within)
 
     pub counting-stops : (r : Refusal) → at < end → readPacket buf at end ≡ Refused r
         → record { accepted = n; reached = at; refusal = r } ≡ readRecording buf start end

@@ -3,8 +3,8 @@ ghost use mathlib.Core.Path.{_≡_};
 ghost use Rattle.recording.specs.Reading.{readRecording};
 use body::Refusal;
 use body::refuse;
-use packet::PacketRead;
-use packet::read_packet;
+use packet::PacketPass;
+use packet::pass_packet;
 
 // What the reading of a recording gives, never zeroed: the number of packets accepted, the place reached (the first byte of the
 // refused packet, or the end), and the refusal as the one-packet reader gave it, with its own place; all 0 at the exact end.
@@ -29,12 +29,12 @@ pub fn read_recording(buf: &[u8], start: usize, end: usize) -> Recording
     let mut accepted = 0;
     let mut at = start;
     while at < end {
-        match read_packet(buf, at, end) {
-            PacketRead::Accepted(packet) => {
+        match pass_packet(buf, at, end) {
+            PacketPass::Passed(length) => {
                 accepted = accepted + 1;
-                at = at + packet.length as usize;
+                at = at + length as usize;
             }
-            PacketRead::Refused(refusal) => {
+            PacketPass::Barred(refusal) => {
                 return Recording {
                     accepted,
                     reached: at,

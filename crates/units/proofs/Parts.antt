@@ -5,7 +5,7 @@ use Prim.Native.Nat.{ℕ, zero, suc, _+_, _-_, _*_, _^_, _≤_, _<_}
 use native.Mathlib.Omega.{arith}
 use native.Mathlib.Nat.{zero-add, add-zero, pow-succ', mul-assoc, suc-sub-suc, zero-sub, sub-zero, suc-add}
 use lib.ListN.{length, take, drop, getD, length-take, length-drop}
-use lib.Seq.{take-take, take-add, drop-drop, take-append-le, drop-append-le, drop-append-add, take-at, drop-at, take-nil, drop-nil}
+use lib.Seq.{take-length, take-take, take-add, drop-drop, take-append-le, drop-append-le, drop-append-add, take-at, drop-at, take-nil, drop-nil}
 use Rattle.units.specs.Units.{Bytes, part, num, field, bytesOf}
 use Rattle.units.proofs.Numbers.{bytes-take, bytes-drop, bytesOf-num, num-lt}
 
@@ -24,6 +24,10 @@ drop-take (suc b) (suc n) [] = sym (take-nil (suc n - suc b))
 drop-take (suc b) (suc n) (x ∷ xs) = rw suc-sub-suc (drop-take b n xs)
 
 -- one behind the other
+-- the part that is the whole
+pub part-whole : (bs : List ℕ) → part bs 0 (length bs - 0) ≡ bs
+part-whole bs = let e : length bs - 0 ≡ length bs = omega arith in rw e (take-length bs)
+
 pub part-add : (bs : List ℕ) (at n m : ℕ) → part bs at (n + m) ≡ part bs at n ++ part bs (at + n) m
 part-add bs at n m = take-add n m (drop at bs) ∙ ap (λ (l : List ℕ). part bs at n ++ take m l) (drop-drop n at bs)
 

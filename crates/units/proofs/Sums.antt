@@ -6,7 +6,7 @@ use mathlib.Core.Logic.{_≢_}
 use Prim.Native.Nat.{ℕ, zero, suc, _+_, _-_, _*_, _/_, _%_, _^_, _≤_, _<_}
 use native.Mathlib.Omega.{arith}
 use native.Mathlib.Decide.{decLt}
-use native.Mathlib.Nat.{zero-add, add-zero, add-left-comm, mul-zero, mul-suc, zero-mod, mod-lt, mod-eq-of-lt, mod-add-mod, add-mul-mod-self-left, div-add-mod, suc-add, le-dest, mul-le-mul-left}
+use native.Mathlib.Nat.{zero-add, add-zero, add-left-comm, mul-zero, mul-suc, mul-add, zero-mod, mod-lt, mod-eq-of-lt, mod-add-mod, add-mul-mod-self-left, div-add-mod, suc-add, le-dest, mul-le-mul-left}
 use native.Mathlib.Numerals.{add-one}
 use lib.ListN.{length, take, drop, length-append, length-drop, take-append-drop}
 use lib.Seq.{length-take-le, drop-drop, take-append-le, drop-append-le, drop-append-add, take-at, drop-at}
@@ -55,6 +55,74 @@ summing-next w bs n k acc x sum s more is e = (omega arith, e ∙ sum-step w k b
 
 pub summing-last : (w : ℕ) (bs : List ℕ) (n k acc : ℕ) → Summing w bs n k acc → n ≤ k → acc ≡ checksum w n bs
 summing-last w bs n k acc s ends = let e : k ≡ n = omega (arith, s .0) in rw (← e) (s .1)
+
+-- j units and k behind them
+sum-parts : (w j k : ℕ) (bs : List ℕ) → sumUnits w (j + k) bs ≡ sumUnits w j bs + sumUnits w k (drop (w * j) bs)
+unfolding sumUnits
+sum-parts w zero k bs = rw (zero-add, mul-zero, drop) (omega arith)
+sum-parts w (suc j) k bs =
+    let i : w + w * j ≡ w * suc j = omega (arith, mul-suc w j) in
+    let d : drop (w * j) (drop w bs) ≡ drop (w * suc j) bs = drop-drop (w * j) w bs ∙ ap (λ (n : ℕ). drop n bs) i in
+    let ih : sumUnits w (j + k) (drop w bs) ≡ sumUnits w j (drop w bs) + sumUnits w k (drop (w * j) (drop w bs)) = sum-parts w j k (drop w bs) in
+    rw (suc-add, ← d) (omega arith)
+
+-- ---- sums in four lanes of equal length, behind a rest
+
+module _ (w : ℕ) (bs : List ℕ) (rest lane : ℕ) where
+  -- a lane's first units up to the k-th of the first lane; that lane stands right behind the rest, so it is added as part of it
+  abbrev upTo : ℕ → ℕ → ℕ
+  upTo from k = sumUnits w (k - rest) (drop (w * from) bs)
+
+  abbrev inLanes : ℕ → ℕ
+  inLanes k = sumUnits w k bs + (upTo (rest + lane) k + (upTo (rest + 2 * lane) k + upTo (rest + 3 * lane) k))
+
+  -- a loop along the lanes of n units: the rest is added, and of each lane what stands before its unit of this turn
+  abbrev pub Lanes : ℕ → ℕ → ℕ → Type 0
+  Lanes n k acc = (rest + 4 * lane ≡ n) × (rest ≤ k) × (k ≤ rest + lane) × (acc ≡ inLanes k % 256 ^ w)
+
+  pub lanes-first : (n acc : ℕ) → rest + 4 * lane ≡ n → acc ≡ checksum w rest bs → Lanes n rest acc
+  unfolding sumUnits
+  lanes-first n acc all e =
+      let z : rest - rest ≡ 0 = omega arith in
+      (all, omega arith, omega arith, rw (z, add-zero) e)
+
+  lane-next : (from k at : ℕ) → rest ≤ k → from + (k - rest) ≡ at → upTo from (k + 1) ≡ upTo from k + field bs (w * at) w
+  lane-next from k at h e =
+      let i : k + 1 - rest ≡ suc (k - rest) = omega arith in
+      let j : w * from + w * (k - rest) ≡ w * at = rw (← e) (sym (mul-add w from (k - rest))) in
+      rw (i, sum-snoc, drop-drop, j)
+
+  pub lanes-next : (n k acc x₀ x₁ x₂ x₃ a₀ a₁ a₂ a₃ : ℕ) → Lanes n k acc → k < rest + lane
+      → x₀ ≡ field bs (w * k) w → x₁ ≡ field bs (w * (k + lane)) w → x₂ ≡ field bs (w * (k + 2 * lane)) w → x₃ ≡ field bs (w * (k + 3 * lane)) w
+      → a₀ ≡ (acc + x₀) % 256 ^ w → a₁ ≡ (a₀ + x₁) % 256 ^ w → a₂ ≡ (a₁ + x₂) % 256 ^ w → a₃ ≡ (a₂ + x₃) % 256 ^ w
+      → Lanes n (k + 1) a₃
+  lanes-next n k acc x₀ x₁ x₂ x₃ a₀ a₁ a₂ a₃ l more f₀ f₁ f₂ f₃ e₀ e₁ e₂ e₃ =
+      let s₀ : sumUnits w (k + 1) bs ≡ sumUnits w k bs + x₀ = rw (add-one, f₀) (sum-snoc w k bs) in
+      let s₁ : upTo (rest + lane) (k + 1) ≡ upTo (rest + lane) k + x₁ = rw f₁ (lane-next (rest + lane) k (k + lane) (l .1) (omega arith)) in
+      let s₂ : upTo (rest + 2 * lane) (k + 1) ≡ upTo (rest + 2 * lane) k + x₂ = rw f₂ (lane-next (rest + 2 * lane) k (k + 2 * lane) (l .1) (omega arith)) in
+      let s₃ : upTo (rest + 3 * lane) (k + 1) ≡ upTo (rest + 3 * lane) k + x₃ = rw f₃ (lane-next (rest + 3 * lane) k (k + 3 * lane) (l .1) (omega arith)) in
+      let t : inLanes k + x₀ + x₁ + x₂ + x₃ ≡ inLanes (k + 1) = omega arith in
+      let m₀ = added (inLanes k) acc x₀ a₀ (l .3) e₀ in
+      let m₁ = added (inLanes k + x₀) a₀ x₁ a₁ m₀ e₁ in
+      let m₂ = added (inLanes k + x₀ + x₁) a₁ x₂ a₂ m₁ e₂ in
+      let m₃ = added (inLanes k + x₀ + x₁ + x₂) a₂ x₃ a₃ m₂ e₃ in
+      (l .0, omega arith, omega arith, m₃ ∙ ap (λ (n : ℕ). n % 256 ^ w) t)
+    where
+      added : (t a x b : ℕ) → a ≡ t % 256 ^ w → b ≡ (a + x) % 256 ^ w → b ≡ (t + x) % 256 ^ w
+      added t a x b e f = f ∙ rw e (mod-add-mod t (256 ^ w) x)
+
+  pub lanes-last : (n k acc : ℕ) → Lanes n k acc → rest + lane ≤ k → acc ≡ checksum w n bs
+  lanes-last n k acc l ends =
+      let i : k ≡ rest + lane = omega (arith, l .2) in
+      let z : rest + lane - rest ≡ lane = omega arith in
+      let s₁ = on (rest + lane) (rest + 2 * lane) (omega arith) in
+      let s₂ = on (rest + 2 * lane) (rest + 3 * lane) (omega arith) in
+      let s₃ = on (rest + 3 * lane) n (omega (arith, l .0)) in
+      let t : inLanes (rest + lane) ≡ sumUnits w n bs = rw z (omega arith) in
+      rw i at (l .3) ∙ ap (λ (n : ℕ). n % 256 ^ w) t
+    where
+      on : (j m : ℕ) → j + lane ≡ m → sumUnits w m bs ≡ sumUnits w j bs + sumUnits w lane (drop (w * j) bs)
+      on j m e = rw (← e) (sum-parts w j lane bs)
 
 pub sum-append : (w j k : ℕ) (xs ys : List ℕ) → length xs ≡ w * j → sumUnits w (j + k) (xs ++ ys) ≡ sumUnits w j xs + sumUnits w k ys
 unfolding sumUnits

@@ -1,72 +1,245 @@
 //! Both sides must give the same answers before anything is timed.
-use crate::inputs::Input;
+use crate::as_raw;
+use crate::inputs::{Call, Input};
+use crate::library;
 use crate::same;
-use crate::sides::{library_packet, library_recording};
+use crate::sides::given;
 use ch11::raw;
 
-/// Compares a recording's answer, every packet of it, and spoilt copies of its first packet.
+/// The longest packet that is checked with each of its bytes spoilt.
+const SPOILT: usize = 2_048;
+
+/// What stands in lists and outputs beforehand.
+const UNTOUCHED: u8 = 0xA5;
+
+/// Compares the row's call on its packet, or a recording's answer and all calls on its packets, and then spoilt copies of the first
+/// packet if it is short.
 pub fn check(input: &Input) {
     let bytes = input.bytes();
-    let mut recording = raw::Recording::default();
-    library_recording(bytes, 0, bytes.len(), &mut recording);
-    assert_eq!(
-        recording,
-        recording_as_raw(same::read_recording(bytes, 0, bytes.len())),
-        "{}",
-        input.name
-    );
-    assert_eq!(recording.refusal.number, 0, "{}", input.name);
-    assert_eq!(recording.accepted, input.packets as u64, "{}", input.name);
+    compare(input.call, bytes, 0, bytes.len());
+    if input.call == Call::ReadRecording {
+        check_recording(input);
+    }
+    let first = compare_packet(bytes, 0, bytes.len()).length as usize;
+    if first <= SPOILT {
+        check_spoilt(input.call, &bytes[..first]);
+    }
+}
+
+/// Every packet of a recording; one that is the same as the packet before it is only read.
+fn check_recording(input: &Input) {
+    let bytes = input.bytes();
+    let mut packets = 0;
     let mut at = 0;
+    let mut previous = &bytes[..0];
     while at < bytes.len() {
-        at += compare_packet(bytes, at, bytes.len()).length as usize;
+        let length = compare_packet(bytes, at, bytes.len()).length as usize;
+        let packet = &bytes[at..at + length];
+        if packet != previous {
+            compare(Call::ListMessages, packet, 0, length);
+            compare(Call::Message, packet, 0, length);
+            compare(Call::WritePacket, packet, 0, length);
+        }
+        previous = packet;
+        packets += 1;
+        at += length;
     }
-    if input.single {
-        return;
-    }
-    check_spoilt(&bytes[..bytes.len() / input.packets]);
+    assert_eq!(packets, input.packets, "{}", input.name);
 }
 
 /// Every shorter window, and every byte of the packet spoilt, with sums that are wrong then and with sums put right.
-fn check_spoilt(packet: &[u8]) {
+fn check_spoilt(call: Call, packet: &[u8]) {
     for end in 0..packet.len() + 2 {
-        compare_packet(packet, 0, end);
-        compare_packet(packet, end, packet.len());
+        compare(call, packet, 0, end);
+        compare(call, packet, end, packet.len());
     }
     for at in 0..packet.len() {
         for bits in [0x01, 0x04, 0x40, 0x80, 0xFF] {
             let mut spoilt = packet.to_vec();
             spoilt[at] ^= bits;
-            compare_packet(&spoilt, 0, packet.len());
+            compare(call, &spoilt, 0, packet.len());
             put_sums_right(&mut spoilt);
-            compare_packet(&spoilt, 0, packet.len());
+            compare(call, &spoilt, 0, packet.len());
+        }
+    }
+    if call == Call::WritePacket {
+        compare_fields(packet);
+    }
+}
+
+/// Compares what a row's call answers on a window; the writer is given what stands in the window, if that has a header.
+fn compare(call: Call, bytes: &[u8], start: usize, end: usize) {
+    match call {
+        Call::ReadPacket => {
+            compare_packet(bytes, start, end);
+        }
+        Call::ReadRecording => {
+            compare_packet(bytes, start, end);
+            compare_recording(bytes, start, end);
+        }
+        Call::ListMessages => compare_lists(bytes, start, end),
+        Call::Message => compare_messages(bytes, start, end),
+        Call::WritePacket => {
+            if let Some(packet) = bytes.get(start..end).filter(|packet| packet.len() >= 24) {
+                compare_outputs(&fields_in(packet), body_in(packet));
+            }
         }
     }
 }
 
 fn compare_packet(bytes: &[u8], start: usize, end: usize) -> raw::Packet {
     let mut packet = raw::Packet::default();
-    library_packet(bytes, start, end, &mut packet);
-    assert_eq!(
-        packet,
-        packet_as_raw(same::read_packet(bytes, start, end)),
-        "window {} to {}",
-        start,
-        end
-    );
+    library::read_packet(bytes, start, end, &mut packet);
+    let answer = as_raw::packet(same::read_packet(bytes, start, end));
+    assert_eq!(packet, answer, "window {} to {}", start, end);
     packet
+}
+
+fn compare_recording(bytes: &[u8], start: usize, end: usize) {
+    let mut recording = raw::Recording::default();
+    library::read_recording(bytes, start, end, &mut recording);
+    let answer = as_raw::recording(same::read_recording(bytes, start, end));
+    assert_eq!(recording, answer, "window {} to {}", start, end);
+}
+
+/// Lists with room for all messages, with more, and too short ones.
+fn compare_lists(bytes: &[u8], start: usize, end: usize) {
+    let count = library::count_messages(bytes, start, end);
+    compare_list(bytes, start, end, [count, count]);
+    compare_list(bytes, start, end, [count + 2, count + 3]);
+    if count > 0 {
+        compare_list(bytes, start, end, [count - 1, count]);
+        compare_list(bytes, start, end, [count, count - 1]);
+    }
+}
+
+/// The answer and the lists; entries past the count are untouched.
+fn compare_list(bytes: &[u8], start: usize, end: usize, rooms: [usize; 2]) {
+    let lists = || rooms.map(|room| vec![u32::from(UNTOUCHED); room]);
+    let ([mut starts, mut lengths], mut list) = (lists(), raw::List::default());
+    library::list_messages(bytes, start, end, &mut starts, &mut lengths, &mut list);
+    let [mut same_starts, mut same_lengths] = lists();
+    let count = same::list_messages(bytes, start, end, &mut same_starts, &mut same_lengths);
+    assert_eq!(list, as_raw::list(count), "window {} to {}", start, end);
+    assert_eq!(starts, same_starts);
+    assert_eq!(lengths, same_lengths);
+    for behind in [starts, lengths] {
+        let count = list.count as usize;
+        assert!(behind[count..]
+            .iter()
+            .all(|&entry| entry == u32::from(UNTOUCHED)));
+    }
+}
+
+/// Each message, and one past the last.
+fn compare_messages(bytes: &[u8], start: usize, end: usize) {
+    for number in 0..library::count_messages(bytes, start, end) + 1 {
+        let mut message = raw::Message::default();
+        library::message(bytes, start, end, number, &mut message);
+        let answer = as_raw::message(same::message(bytes, start, end, number));
+        assert_eq!(
+            message, answer,
+            "message {} of {} to {}",
+            number, start, end
+        );
+    }
+}
+
+/// The writer's answer to each value of each field, others as in the packet, in range and out of it.
+fn compare_fields(packet: &[u8]) {
+    let places: [fn(&mut raw::Fields) -> &mut u64; 7] = [
+        |fields| &mut fields.channel,
+        |fields| &mut fields.version,
+        |fields| &mut fields.sequence,
+        |fields| &mut fields.flags,
+        |fields| &mut fields.kind,
+        |fields| &mut fields.rtc,
+        |fields| &mut fields.time,
+    ];
+    let wide = [65_535, 65_536, (1 << 48) - 1, 1 << 48, u64::MAX];
+    for place in places {
+        for value in (0..=300).chain(wide) {
+            let mut fields = fields_in(packet);
+            *place(&mut fields) = value;
+            compare_outputs(&fields, body_in(packet));
+        }
+    }
+}
+
+/// Outputs with no room, with too little, with just enough and with more.
+fn compare_outputs(fields: &raw::Fields, body: &[u8]) {
+    let room = compare_output(fields, body, 0).refusal.room as usize;
+    if room > 0 {
+        compare_output(fields, body, room - 1);
+        compare_output(fields, body, room);
+        compare_output(fields, body, room + 9);
+    }
+}
+
+/// The answer and the output; bytes behind the packet are untouched.
+fn compare_output(fields: &raw::Fields, body: &[u8], room: usize) -> raw::Written {
+    let (mut out, mut written) = (vec![UNTOUCHED; room], raw::Written::default());
+    library::write_packet(fields, body, &mut out, &mut written);
+    let mut same_out = vec![UNTOUCHED; room];
+    let answer = as_raw::written(same::write_packet(&given(fields), body, &mut same_out));
+    assert_eq!(written, answer, "{:?}", fields);
+    assert!(out == same_out, "the output for {:?}", fields);
+    assert!(out[written.length as usize..]
+        .iter()
+        .all(|&byte| byte == UNTOUCHED));
+    written
+}
+
+/// The number in so many bytes from `at` on, without those that aren't there.
+fn number_at(bytes: &[u8], at: usize, width: usize) -> u64 {
+    let unit = bytes.iter().skip(at).take(width).rev();
+    unit.fold(0, |number, &byte| number << 8 | u64::from(byte))
+}
+
+/// What the headers say, right or wrong.
+fn fields_in(packet: &[u8]) -> raw::Fields {
+    raw::Fields {
+        channel: number_at(packet, 2, 2),
+        version: number_at(packet, 12, 1),
+        sequence: number_at(packet, 13, 1),
+        flags: number_at(packet, 14, 1),
+        kind: number_at(packet, 15, 1),
+        rtc: number_at(packet, 16, 6),
+        time: if has_secondary(packet) {
+            number_at(packet, 24, 8)
+        } else {
+            0
+        },
+    }
+}
+
+/// As much of the body as there is.
+fn body_in(packet: &[u8]) -> &[u8] {
+    let data = packet.get(body_at(packet)..).unwrap_or(&[]);
+    let length = number_at(packet, 8, 4) as usize;
+    &data[..length.min(data.len())]
+}
+
+fn has_secondary(packet: &[u8]) -> bool {
+    packet[14] & 0x80 != 0
+}
+
+fn body_at(packet: &[u8]) -> usize {
+    if has_secondary(packet) {
+        36
+    } else {
+        24
+    }
 }
 
 /// Writes the header sum, the secondary sum and the data sum that the bytes call for.
 fn put_sums_right(packet: &mut [u8]) {
     put_sum(packet, 0, 22, 2);
-    let secondary = packet[14] & 0x80 != 0;
-    if secondary {
+    if has_secondary(packet) {
         put_sum(packet, 24, 34, 2);
     }
     let width = [0, 1, 2, 4][usize::from(packet[14] & 3)];
-    let body = if secondary { 36 } else { 24 };
-    put_sum(packet, body, packet.len() - width, width);
+    put_sum(packet, body_at(packet), packet.len() - width, width);
 }
 
 /// Puts the sum of the units from `from` to `to` down at `to`.
@@ -74,75 +247,9 @@ fn put_sum(packet: &mut [u8], from: usize, to: usize, width: usize) {
     if width == 0 || to < from || packet.len() < to + width {
         return;
     }
-    let mut sum = 0_u32;
-    for unit in packet[from..to].chunks_exact(width) {
-        let number = unit
-            .iter()
-            .rev()
-            .fold(0_u32, |number, &byte| number << 8 | u32::from(byte));
-        sum = sum.wrapping_add(number);
+    let mut sum = 0_u64;
+    for at in (from..=to - width).step_by(width) {
+        sum = sum.wrapping_add(number_at(packet, at, width));
     }
     packet[to..to + width].copy_from_slice(&sum.to_le_bytes()[..width]);
-}
-
-fn recording_as_raw(recording: same::Recording) -> raw::Recording {
-    raw::Recording {
-        refusal: recording
-            .refusal
-            .map_or_else(raw::Refusal::default, refusal_as_raw),
-        accepted: recording.accepted as u64,
-        reached: recording.reached as u64,
-    }
-}
-
-fn refusal_as_raw(refusal: same::Refusal) -> raw::Refusal {
-    raw::Refusal {
-        number: u64::from(refusal.number),
-        place: refusal.place as u64,
-        room: 0,
-    }
-}
-
-fn part_as_raw(part: same::Part) -> raw::Part {
-    raw::Part {
-        at: part.at as u64,
-        length: part.length as u64,
-    }
-}
-
-fn packet_as_raw(answer: Result<same::Packet, same::Refusal>) -> raw::Packet {
-    let packet = match answer {
-        Ok(packet) => packet,
-        Err(refusal) => {
-            return raw::Packet {
-                refusal: refusal_as_raw(refusal),
-                ..raw::Packet::default()
-            }
-        }
-    };
-    raw::Packet {
-        refusal: raw::Refusal::default(),
-        fields: fields_as_raw(packet.fields),
-        length: u64::from(packet.length),
-        data_length: u64::from(packet.data_length),
-        header_sum: u64::from(packet.header_sum),
-        data_sum: u64::from(packet.data_sum),
-        header: part_as_raw(packet.header),
-        secondary: part_as_raw(packet.secondary),
-        body: part_as_raw(packet.body),
-        filler: part_as_raw(packet.filler),
-        sum: part_as_raw(packet.sum),
-    }
-}
-
-fn fields_as_raw(fields: same::Fields) -> raw::Fields {
-    raw::Fields {
-        channel: u64::from(fields.channel),
-        version: u64::from(fields.version),
-        sequence: u64::from(fields.sequence),
-        flags: u64::from(fields.flags),
-        kind: u64::from(fields.kind),
-        rtc: fields.rtc,
-        time: fields.time,
-    }
 }

@@ -1,18 +1,25 @@
 //! The verified library against the same method in Rust.
 //!
-//!     bench [rounds] [where it runs]            prints the table of times
+//!     bench [rounds] [where it runs]            checks that both sides agree and prints the table of times
 //!     bench count <input> <side> <passes>       passes over one input on one side, for a counter of instructions
-//!     bench inputs                              prints the names of the inputs
+//!     bench inputs                              prints each input's name, how many packets one pass goes over, and whether a read-only
+//!                                               pass is a measure for it (`read` or `-`)
+//!     bench compiler                            prints the compiler that made it
 //!
 //! Sides are `library`, `rust` and `read`.
+mod aligned;
+mod as_raw;
+mod bodies;
 mod check;
 mod inputs;
+mod library;
+mod mixed;
 mod same;
 mod sides;
 mod timing;
 
 use inputs::{Input, INPUTS};
-use sides::Side;
+use sides::{Lent, Side};
 use std::env;
 use timing::Medians;
 
@@ -22,7 +29,8 @@ fn main() {
     let arguments: Vec<String> = env::args().skip(1).collect();
     match arguments.first().map(String::as_str) {
         Some("count") => count(&arguments[1..]),
-        Some("inputs") => INPUTS.iter().for_each(|(name, _)| println!("{}", name)),
+        Some("inputs") => list_inputs(),
+        Some("compiler") => println!("{}", compiler()),
         _ => table(&arguments),
     }
 }
@@ -35,7 +43,16 @@ fn count(arguments: &[String]) {
         .expect("an input's name");
     let side = Side::named(&arguments[1]).expect("library, rust or read");
     let passes = arguments[2].parse().expect("a number of passes");
-    sides::run(side, &make("counted"), passes);
+    let input = make("counted");
+    sides::run(side, &input, &mut Lent::to(&input), passes);
+}
+
+fn list_inputs() {
+    for (name, make) in INPUTS {
+        let input = make(name);
+        let read_only = if input.reads_through() { "read" } else { "-" };
+        println!("{} {} {}", name, input.units(), read_only);
+    }
 }
 
 /// Checks and times every input.
@@ -52,16 +69,20 @@ fn table(arguments: &[String]) {
     }
 }
 
-fn print_heading(rounds: usize, place: &str) {
-    println!(
-        "target {}, {}, opt level {}",
-        env!("BENCH_TARGET"),
+fn compiler() -> String {
+    format!(
+        "{}, target {}, opt level {}",
         env!("BENCH_RUSTC"),
+        env!("BENCH_TARGET"),
         env!("BENCH_OPT_LEVEL")
-    );
+    )
+}
+
+fn print_heading(rounds: usize, place: &str) {
+    println!("Rust by {}", compiler());
     println!("runs: {}", place);
     println!(
-        "medians of {} rounds; ratio = library / Rust; GB/s = 10^9 bytes of input each second",
+        "medians of {} rounds, for one pass; ratio = library / Rust; GB/s = 10^9 bytes of input each second",
         rounds
     );
     println!("(512K-none: neither side reads the body, so its GB/s are no speed of reading)");
@@ -70,13 +91,13 @@ fn print_heading(rounds: usize, place: &str) {
 }
 
 fn print_line(input: &Input, medians: &Medians) {
-    let bytes = input.bytes().len();
+    let bytes = input.bytes().len() * input.calls;
     let speed = |seconds: f64| bytes as f64 / seconds / 1e9;
     println!(
         "{:<16} {:>8} {:>7} {:>12.3} {:>12.3} {:>6.2} {:>9.3} {:>9.3} {:>9.3}",
         input.name,
         bytes,
-        input.packets,
+        input.units(),
         medians.library * 1e6,
         medians.rust * 1e6,
         medians.library / medians.rust,

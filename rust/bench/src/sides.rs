@@ -1,5 +1,7 @@
 //! The three things that are timed on an input: the library, the same method in Rust, and a pass that only reads.
-use crate::inputs::Input;
+use crate::aligned::Aligned;
+use crate::inputs::{Call, Input};
+use crate::library;
 use crate::same;
 use crate::same::units::sum64;
 use ch11::raw;
@@ -24,43 +26,121 @@ impl Side {
     }
 }
 
-/// Goes over the input so many times on one side.
-pub fn run(side: Side, input: &Input, passes: usize) {
-    let bytes = input.bytes();
-    let end = bytes.len();
-    let mut packet = raw::Packet::default();
-    let mut recording = raw::Recording::default();
-    match (side, input.single) {
-        (Side::Library, true) => repeat(passes, |start| {
-            library_packet(bytes, start, end, &mut packet);
-            keep(&packet);
-        }),
-        (Side::Library, false) => repeat(passes, |start| {
-            library_recording(bytes, start, end, &mut recording);
-            keep(&recording);
-        }),
-        (Side::Rust, true) => repeat(passes, |start| keep(&same::read_packet(bytes, start, end))),
-        (Side::Rust, false) => repeat(passes, |start| {
-            keep(&same::read_recording(bytes, start, end))
-        }),
-        (Side::ReadOnly, _) => repeat(passes, |start| keep(&sum64(&bytes[start..]))),
+/// What the calls on an input's first packet are lent and told: lists with room for all messages, the last message's number,
+/// the packet's fields and body, and an output with room for it.
+pub struct Lent<'a> {
+    starts: Vec<u32>,
+    lengths: Vec<u32>,
+    last: usize,
+    fields: raw::Fields,
+    given: same::Given,
+    body: &'a [u8],
+    out: Aligned,
+}
+
+impl<'a> Lent<'a> {
+    pub fn to(input: &'a Input) -> Lent<'a> {
+        let bytes = input.bytes();
+        let count = library::count_messages(bytes, 0, bytes.len());
+        let mut packet = raw::Packet::default();
+        library::read_packet(bytes, 0, bytes.len(), &mut packet);
+        Lent {
+            starts: vec![0; count],
+            lengths: vec![0; count],
+            last: count.saturating_sub(1),
+            fields: packet.fields,
+            given: given(&packet.fields),
+            body: &bytes[packet.body.at as usize..][..packet.body.length as usize],
+            out: Aligned::copy_of(&vec![0; packet.length as usize], false),
+        }
     }
 }
 
-pub fn library_packet(bytes: &[u8], start: usize, end: usize, packet: &mut raw::Packet) {
-    // SAFETY: the pointers are good for their lengths and don't overlap.
-    unsafe { raw::ch11_read_packet(bytes.as_ptr(), bytes.len(), start, end, packet) };
+/// The fields of the library's writer as the Rust writer takes them.
+pub fn given(fields: &raw::Fields) -> same::Given {
+    same::Given {
+        channel: fields.channel,
+        version: fields.version,
+        sequence: fields.sequence,
+        flags: fields.flags,
+        kind: fields.kind,
+        rtc: fields.rtc,
+        time: fields.time,
+    }
 }
 
-pub fn library_recording(bytes: &[u8], start: usize, end: usize, recording: &mut raw::Recording) {
-    // SAFETY: the pointers are good for their lengths and don't overlap.
-    unsafe { raw::ch11_read_recording(bytes.as_ptr(), bytes.len(), start, end, recording) };
+/// Goes over the input so many times on one side.
+pub fn run(side: Side, input: &Input, lent: &mut Lent, passes: usize) {
+    let calls = passes * input.calls;
+    match side {
+        Side::Library => run_library(input, lent, calls),
+        Side::Rust => run_rust(input, lent, calls),
+        Side::ReadOnly => repeat(calls, |start| keep(&sum64(&input.bytes()[start..]))),
+    }
+}
+
+fn run_library(input: &Input, lent: &mut Lent, calls: usize) {
+    let bytes = input.bytes();
+    let end = bytes.len();
+    match input.call {
+        Call::ReadPacket => repeat_into(calls, |start, packet| {
+            library::read_packet(bytes, start, end, packet)
+        }),
+        Call::ReadRecording => repeat_into(calls, |start, recording| {
+            library::read_recording(bytes, start, end, recording)
+        }),
+        Call::ListMessages => repeat_into(calls, |start, list| {
+            library::list_messages(bytes, start, end, &mut lent.starts, &mut lent.lengths, list)
+        }),
+        Call::Message => repeat_into(calls, |start, message| {
+            library::message(bytes, start, end, lent.last + start, message)
+        }),
+        Call::WritePacket => {
+            let out = lent.out.bytes_mut();
+            repeat_into(calls, |start, written| {
+                library::write_packet(&lent.fields, &lent.body[start..], out, written)
+            })
+        }
+    }
+}
+
+fn run_rust(input: &Input, lent: &mut Lent, calls: usize) {
+    let bytes = input.bytes();
+    let end = bytes.len();
+    match input.call {
+        Call::ReadPacket => repeat(calls, |start| keep(&same::read_packet(bytes, start, end))),
+        Call::ReadRecording => repeat(calls, |start| {
+            keep(&same::read_recording(bytes, start, end))
+        }),
+        Call::ListMessages => repeat(calls, |start| {
+            let (starts, lengths) = (&mut lent.starts, &mut lent.lengths);
+            keep(&same::list_messages(bytes, start, end, starts, lengths))
+        }),
+        Call::Message => repeat(calls, |start| {
+            keep(&same::message(bytes, start, end, lent.last + start))
+        }),
+        Call::WritePacket => {
+            let out = lent.out.bytes_mut();
+            repeat(calls, |start| {
+                keep(&same::write_packet(&lent.given, &lent.body[start..], out))
+            })
+        }
+    }
+}
+
+/// Repeats a call of the library, which puts its answer into a struct.
+fn repeat_into<Answer: Default>(calls: usize, mut call: impl FnMut(usize, &mut Answer)) {
+    let mut answer = Answer::default();
+    repeat(calls, |start| {
+        call(start, &mut answer);
+        keep(&answer);
+    });
 }
 
 /// Calls again and again with a start of 0 that the compiler doesn't know.
-fn repeat(passes: usize, mut call: impl FnMut(usize)) {
+fn repeat(calls: usize, mut call: impl FnMut(usize)) {
     let start = 0;
-    for _ in 0..passes {
+    for _ in 0..calls {
         // SAFETY: a reference is good to read.
         call(unsafe { read_volatile(&start) });
     }

@@ -1,35 +1,33 @@
-use Rattle.body.proofs.Walking.{open-long}
+use Rattle.body.proofs.Counts.{walked-counted, walked-faulty}
+use Rattle.body.specs.Walk.{openBody}
 use Rattle.body.specs.Answers.{checkBody}
-use mathlib.Core.Path.{sym, _∙_}
+use Rattle.body.specs.declared.Checked.the-variants.{Faulty}
+use borrow.Author.Tests.{not-false}
+use mathlib.Core.Path.{sym, ap, _∙_}
 use borrow.Author.Needs.{needs}
 use Rattle.body.proofs.check_body.Statement.{statement}
 use Rattle.body.proofs.check_body.Tie as tie
 
-count-blocks-requires : tie.Need-count-blocks-requires
-count-blocks-requires c κs = open-long _ _ _ _ (sym (c .before .before .before .open-body .ensures) ∙ c .before .shape .given .1)
-
 returns : tie.Need-returns
-unfolding checkBody
-returns c = simp (sym (c .before .before .open-body .ensures) ∙ c .enum-told .given .1)
+unfolding checkBody openBody
+returns c = simp (sym (c .before .opens-kind .ensures), c .if1 .taken)
+
+walk-body-requires : tie.Need-walk-body-requires
+walk-body-requires c κs = sym (c .before .opens-kind .ensures) ∙ not-false _ (c .if1 .left)
 
 returns-2 : tie.Need-returns-2
-unfolding checkBody
-returns-2 c = c .count-blocks .ensures ∙ simp (sym (c .before .before .before .before .open-body .ensures) ∙ c .before .before .shape .given .1)
+returns-2 c =
+    let w = c .before .before .before in
+    let o = sym (w .before .before .opens-kind .ensures) ∙ not-false _ (w .before .if1 .left) in
+    ap Faulty (c .fault .ensures) ∙ sym (walked-faulty _ _ _ _ o (w .walk-body .ensures) (c .before .if2 .taken))
 
 returns-3 : tie.Need-returns-3
-unfolding checkBody
-returns-3 c = simp (c .fault .ensures, sym (c .before .before .before .open-body .ensures) ∙ c .before .enum-told2 .given .1)
+returns-3 c =
+    let w = c .before .before in
+    let o = sym (w .before .before .opens-kind .ensures) ∙ not-false _ (w .before .if1 .left) in
+    sym (walked-counted _ _ _ _ o (w .walk-body .ensures) (c .if2 .left))
 
 pub check-body-spec : {M : Type 1} → statement M
 check-body-spec =
     tie.close
-    (tie.spec
-    (λ c κs. search needs)
-    (λ c. search needs)
-    (λ c. search needs)
-    count-blocks-requires
-    (λ c. search needs)
-    (λ c κs. search needs)
-    returns
-    returns-2
-    returns-3)
+    (tie.spec (λ c κs. search needs) returns walk-body-requires (λ c κs. search needs) returns-2 returns-3)

@@ -1,35 +1,49 @@
-use Rattle.body.proofs.Walking.{open-long}
-use Rattle.body.specs.declared.Listed.the-variants.{Unlisted}
-use Rattle.body.proofs.Reading.{messages-shaped, list-room, list-faulty}
-use Rattle.body.specs.Answers.{checkBody, filled, tab, listOf, listAfter}
+use Rattle.body.proofs.Reading.{fill-none, list-faulty, lists-all, lists-none}
+use Rattle.body.specs.Answers.{listOf, listAfter}
 use native.Mathlib.Omega.{arith}
-use mathlib.Core.Path.{refl, sym, ap, _∙_}
+use mathlib.Core.Path.{refl, sym, _∙_}
 use borrow.Author.Needs.{needs}
 use Rattle.body.proofs.list_messages.Statement.{statement}
 use Rattle.body.proofs.list_messages.Tie as tie
 
-list-shape-requires : tie.Need-list-shape-requires
-list-shape-requires c κs = (open-long _ _ _ _ (sym (c .before .before .before .before .before .open-body .ensures) ∙ c .before .before .before .shape .given .1), search needs)
-
 returns : tie.Need-returns
-unfolding listAfter listOf checkBody filled tab
-returns c = (list-room _ _ _ 0 (simp (sym (c .before .before .open-body .ensures) ∙ c .enum-told .given .1)) (omega arith), (refl, refl))
+unfolding listAfter
+returns c =
+    let at-n = c .before .before in
+    let e = sym (at-n .before .before .check-body .ensures) ∙ at-n .n .given .1 in
+    (sym (lists-none _ _ _ _ e _ _ (omega arith)), (refl, refl))
 
 returns-2 : tie.Need-returns-2
-unfolding listOf checkBody
+unfolding listAfter
 returns-2 c =
-    let listed = c .before .before .before .before in
-    let after-shape = listed .before .before .before .before in
-    let e = sym (after-shape .before .before .open-body .ensures) ∙ after-shape .shape .given .1 in
-    let s = listed .list-shape .ensures in
-    let m = messages-shaped _ _ _ _ e in
-    (s .0 ∙ simp e, (rw m (s .1 .0), rw m (s .1 .1)))
+    let at-n = c .before .before .before in
+    let e = sym (at-n .before .before .check-body .ensures) ∙ at-n .n .given .1 in
+    (sym (lists-none _ _ _ _ e _ _ (omega arith)), (refl, refl))
+
+fill-lists-requires : tie.Need-fill-lists-requires
+fill-lists-requires c κs =
+    let at-n = c .before .before .before .before .before .before in
+    let e = sym (at-n .before .before .check-body .ensures) ∙ at-n .n .given .1 in
+    ((e, omega arith), (omega arith, omega arith, omega arith))
 
 returns-3 : tie.Need-returns-3
-unfolding listAfter listOf checkBody
+unfolding listAfter
 returns-3 c =
-    let e = sym (c .before .before .before .open-body .ensures) ∙ c .before .enum-told2 .given .1 in
-    (ap Unlisted (c .fault .ensures) ∙ list-faulty _ _ _ _ (simp e), (refl, refl))
+    let filled = c .before .before .before .before in
+    let at-n = filled .before .before .before .before .before .before .before in
+    let e = sym (at-n .before .before .check-body .ensures) ∙ at-n .n .given .1 in
+    (sym (lists-all _ _ _ _ e _ _ (omega arith)), (filled .fill-lists .ensures .0, filled .fill-lists .ensures .1))
+
+returns-4 : tie.Need-returns-4
+unfolding listAfter
+returns-4 c =
+    let at-n = c .before .before .before .before in
+    let e = sym (at-n .before .before .check-body .ensures) ∙ at-n .n .given .1 in
+    (sym (lists-all _ _ _ _ e _ _ (omega arith)), (fill-none _ _ _ (omega arith), fill-none _ _ _ (omega arith)))
+
+returns-5 : tie.Need-returns-5
+unfolding listAfter listOf
+returns-5 c = (list-faulty _ _ _ _ (sym (c .before .before .before .check-body .ensures) ∙ c .before .f .given .1), (refl, refl))
 
 pub list-messages-spec : {M : Type 1} → statement M
 list-messages-spec =
@@ -37,12 +51,12 @@ list-messages-spec =
     (tie.spec
     (λ c κs. search needs)
     (λ c. search needs)
-    (λ c. search needs)
-    list-shape-requires
-    (λ c. search needs)
-    (λ c κs. search needs)
     returns
-    (λ c. search needs)
-    (λ c. search needs)
     returns-2
-    returns-3)
+    fill-lists-requires
+    (λ c. search needs)
+    (λ c. search needs)
+    (λ c. search needs)
+    returns-3
+    returns-4
+    returns-5)

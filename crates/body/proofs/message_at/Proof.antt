@@ -1,28 +1,33 @@
+use Rattle.body.proofs.Reading.{message-one, message-missing}
+use Rattle.body.specs.Answers.{pickCounted, messageAt}
+use Rattle.body.specs.declared.Picked.the-variants.{One}
 use native.Mathlib.Omega.{arith}
-use borrow.Author.Tests.{le-ltb}
-use Rattle.body.proofs.Walking.{open-long}
-use Rattle.body.specs.Answers.{checkBody, messageIn, pickCounted, messageAt}
-use mathlib.Core.Path.{sym, _∙_}
+use mathlib.Core.Path.{sym, ap, _∙_}
 use borrow.Author.Needs.{needs}
 use Rattle.body.proofs.message_at.Statement.{statement}
 use Rattle.body.proofs.message_at.Tie as tie
 
-pick-message-requires : tie.Need-pick-message-requires
-pick-message-requires c κs = open-long _ _ _ _ (sym (c .before .before .before .open-body .ensures) ∙ c .before .shape .given .1)
-
 returns : tie.Need-returns
-unfolding messageAt messageIn checkBody pickCounted
 returns c =
-    let number = c .before .before .before .before .args .number in
-    simp (sym (c .before .before .open-body .ensures) ∙ c .enum-told .given .1, le-ltb number 0 (omega arith))
+    let at-n = c .before .before in
+    let e = sym (at-n .before .before .check-body .ensures) ∙ at-n .n .given .1 in
+    sym (message-missing _ _ _ _ e _ (c .if1 .taken))
+
+seek-requires : tie.Need-seek-requires
+seek-requires c κs =
+    let at-n = c .before .before in
+    let e = sym (at-n .before .before .check-body .ensures) ∙ at-n .n .given .1 in
+    (e, omega arith)
 
 returns-2 : tie.Need-returns-2
-unfolding messageAt messageIn checkBody
-returns-2 c = c .pick-message .ensures ∙ simp (sym (c .before .before .before .before .open-body .ensures) ∙ c .before .before .shape .given .1)
+returns-2 c =
+    let at-n = c .before .before .before in
+    let e = sym (at-n .before .before .check-body .ensures) ∙ at-n .n .given .1 in
+    ap One (c .seek .ensures) ∙ sym (message-one _ _ _ _ e _ (c .before .if1 .left))
 
 returns-3 : tie.Need-returns-3
-unfolding messageAt messageIn checkBody pickCounted
-returns-3 c = simp (c .fault .ensures, sym (c .before .before .before .open-body .ensures) ∙ c .before .enum-told2 .given .1)
+unfolding messageAt pickCounted
+returns-3 c = simp (sym (c .before .before .before .check-body .ensures) ∙ c .before .f .given .1)
 
 pub message-at-spec : {M : Type 1} → statement M
 message-at-spec =
@@ -30,10 +35,8 @@ message-at-spec =
     (tie.spec
     (λ c κs. search needs)
     (λ c. search needs)
-    (λ c. search needs)
-    pick-message-requires
-    (λ c. search needs)
-    (λ c κs. search needs)
     returns
+    seek-requires
+    (λ c. search needs)
     returns-2
     returns-3)

@@ -1,4 +1,5 @@
-use mathlib.Core.Path.{refl, ap, _∙_}
+use mathlib.Core.Path.{refl, sym, ap, _∙_}
+use lib.ListN.{getD}
 use borrow.Author.Needs.{needs}
 use Rattle.packet.specs.Read.{told}
 use Rattle.ch11.specs.Words.{packetWords}
@@ -6,13 +7,29 @@ use Rattle.ch11.proofs.ch11_read_packet.Statement.{statement}
 use Rattle.ch11.proofs.ch11_read_packet.Tie as tie
 
 returns : tie.Need-returns
-returns c = (c .before .packet-words .ensures ∙ ap (λ a. packetWords (told a)) (c .before .before .read-packet .ensures), refl)
+unfolding packetWords
+returns c =
+    let read = sym (c .before .before .p .given .1) ∙ c .before .before .before .before .read-packet .ensures in
+    (c .packet-words .ensures ∙ ap (λ a. packetWords (told a)) read, sym (ap (λ ws. getD ws 0 0) (c .packet-words .ensures)))
+
+returns-2 : tie.Need-returns-2
+unfolding packetWords
+returns-2 c =
+    let read = sym (c .before .before .before .before .f .given .1) ∙ c .before .before .before .before .before .before .read-packet .ensures in
+    (ap (λ a. packetWords (told a)) read, refl)
 
 pub ch11-read-packet-spec : {M : Type 1} → statement M
 ch11-read-packet-spec =
     tie.close
     (tie.spec
     (λ c κs. search needs)
+    (λ c. search needs)
     (λ c κs. search needs)
     (λ c. search needs)
-    returns)
+    (λ c. search needs)
+    (λ c. search needs)
+    (λ c. search needs)
+    (λ c. search needs)
+    (λ c. search needs)
+    returns
+    returns-2)

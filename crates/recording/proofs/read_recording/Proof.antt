@@ -1,10 +1,10 @@
 use borrow.Author.Tests.{ltb-true, ltb-false}
 use mathlib.Core.Path.{sym, _∙_}
 use mathlib.Core.Logic.{⊎-elim}
-use Rattle.packet.proofs.Own.{fits}
+use Rattle.packet.proofs.Answers.{barred-is}
 use Prim.Native.Nat.{_-_}
 use native.Mathlib.Omega.{arith}
-use Rattle.recording.proofs.Readings.{Counting, outside-disordered, outside-past, recording-outside, counting-first, counting-on, counting-stops, counting-end}
+use Rattle.recording.proofs.Readings.{Counting, outside-disordered, outside-past, recording-outside, counting-first, counting-passed, counting-stops, counting-end}
 use borrow.Author.Needs.{needs}
 use Rattle.recording.proofs.read_recording.Statement.{statement}
 use Rattle.recording.proofs.read_recording.Tie as tie
@@ -26,33 +26,38 @@ returns c =
 loop-holds : tie.Need-loop-holds Inv-loop μ-loop
 loop-holds c = counting-first _ _ _ (c .before .if1 .left) (ltb-false _ _ (c .if2 .left))
 
+pass-packet-requires : tie.Need-pass-packet-requires Inv-loop μ-loop
+pass-packet-requires c κs = (omega arith, ltb-false _ _ (c .before .before .if2 .left))
+
 add-at : tie.Need-add-at Inv-loop μ-loop
 add-at c =
-    let after-read = c .before .before .before .before in
-    let g = c .before .before .packet .given in
-    let k = fits _ _ _ (g .0 .0) (sym (after-read .read-packet .ensures) ∙ g .1) in
-    omega (arith, after-read .before .before .before .before .before .before .fits)
+    let after-read = c .before .before .before in
+    let g = c .before .length .given in
+    let p = counting-passed _ _ _ _ _ (after-read .before .before .loop .inv) (g .0 .0) (after-read .before .loop-test .taken)
+    (sym (g .1) ∙ after-read .pass-packet .ensures) in
+    omega (arith, p .2, after-read .before .before .before .before .before .before .fits)
 
 loop-less : tie.Need-loop-less Inv-loop μ-loop
 loop-less c =
-    let after-read = c .before .before .before .before in
-    let g = c .before .before .packet .given in
-    let k = fits _ _ _ (g .0 .0) (sym (after-read .read-packet .ensures) ∙ g .1) in
-    omega arith
+    let after-read = c .before .before .before in
+    let g = c .before .length .given in
+    let p = counting-passed _ _ _ _ _ (after-read .before .before .loop .inv) (g .0 .0) (after-read .before .loop-test .taken)
+    (sym (g .1) ∙ after-read .pass-packet .ensures) in
+    omega (arith, p .1, p .2)
 
 loop-again : tie.Need-loop-again Inv-loop μ-loop
 loop-again c =
-    let after-read = c .before .before .before .before in
-    let g = c .before .before .packet .given in
-    counting-on _ _ _ _ _ (after-read .before .before .loop .inv) (g .0 .0) (after-read .before .loop-test .taken)
-    (sym (after-read .read-packet .ensures) ∙ g .1)
+    let after-read = c .before .before .before in
+    let g = c .before .length .given in
+    counting-passed _ _ _ _ _ (after-read .before .before .loop .inv) (g .0 .0) (after-read .before .loop-test .taken)
+    (sym (g .1) ∙ after-read .pass-packet .ensures) .0
 
 returns-2 : tie.Need-returns-2 Inv-loop μ-loop
 returns-2 c =
     let after-read = c .before .before .before in
     let g = c .before .refusal .given in
     counting-stops _ _ _ _ _ (after-read .before .before .loop .inv) (g .0 .0) (after-read .before .loop-test .taken)
-    (sym (after-read .read-packet .ensures) ∙ g .1)
+    (sym (barred-is _ _ (sym (g .1) ∙ after-read .pass-packet .ensures)))
 
 returns-3 : tie.Need-returns-3 Inv-loop μ-loop
 returns-3 c = counting-end _ _ _ _ _ (c .before .before .loop .inv) _ (c .before .loop-test .left) (c .refuse2 .ensures)
@@ -66,7 +71,7 @@ read-recording-spec =
     (λ c κs. search needs)
     returns
     loop-holds
-    (λ c κs. search needs)
+    pass-packet-requires
     (λ c. search needs)
     (λ c. search needs)
     (λ c. search needs)

@@ -1,53 +1,73 @@
-//! Opened bodies: the channel word and the walk over the blocks. A fault is given by its place in the body.
+//! Opened bodies: the channel word, the walk over the blocks, and the messages of a body that the walk has passed.
+use super::rules::TimeRule;
 use super::units::{read32, read64};
 
-/// How times are formed.
-#[derive(Clone, Copy)]
-pub enum TimeRule {
-    Counter,
-    Chapter4,
-    Ieee1588,
-    Extended,
-}
-
-impl TimeRule {
-    /// Whether a time is in form.
-    pub fn admits(self, time: u64) -> bool {
-        match self {
-            TimeRule::Counter => time < 1 << 48,
-            TimeRule::Chapter4 => time as u16 == 0,
-            TimeRule::Ieee1588 => (time as u32) < 1_000_000_000,
-            TimeRule::Extended => true,
-        }
-    }
-}
-
 /// What the channel word says of the blocks: whether each has a time stamp, and how many there are (if it says so).
+#[derive(Clone, Copy)]
 struct Shape {
     stamped: bool,
     count: Option<usize>,
-    rule: TimeRule,
 }
 
-/// The number of messages of a body, 0 for a type that isn't opened, or the place of the fault.
-pub fn check_body(body: &[u8], kind: u8, rule: TimeRule) -> Result<usize, usize> {
-    if kind != 0x30 && kind != 0x50 {
+/// What the head of a block says: its time (0 if none is stored), its ID word, and its number of bytes.
+#[derive(Clone, Copy)]
+pub struct Head {
+    pub time: u64,
+    pub id: u32,
+    pub length: usize,
+}
+
+/// One message, its start counted from the body's first byte.
+pub struct Message {
+    pub head: Head,
+    pub start: usize,
+}
+
+/// The number of messages of a body, 0 for a type that isn't opened, or the place of the fault in the body.
+#[cfg_attr(feature = "inlined", inline(always))]
+pub fn check_body(body: &[u8], kind: u8, flags: u8) -> Result<usize, usize> {
+    if !is_opened(kind) {
         return Ok(0);
     }
-    if body.len() < 4 {
-        return Err(0);
-    }
-    let word = read32(body, 0);
-    let shape = if kind == 0x30 {
-        message_shape(word, rule)
+    let shape = open_body(body, kind).ok_or(0_usize)?;
+    count_blocks(body, shape, TimeRule::of_messages(flags))
+}
+
+/// The messages of a body that passed `check_body`; none in a type that isn't opened.
+pub fn messages(body: &[u8], kind: u8) -> impl Iterator<Item = Message> + '_ {
+    let shape = if is_opened(kind) {
+        open_body(body, kind)
     } else {
-        uart_shape(word, rule)
+        None
     };
-    count_blocks(body, &shape.ok_or(0_usize)?)
+    let (stamped, mut rest) = match shape {
+        Some(shape) => (shape.stamped, &body[4..]),
+        None => (false, &body[..0]),
+    };
+    std::iter::from_fn(move || {
+        let (head, bytes) = block_head(rest, stamped)?;
+        let start = body.len() - bytes.len();
+        rest = &bytes[head.length + head.length % 2..];
+        Some(Message { head, start })
+    })
+}
+
+fn is_opened(kind: u8) -> bool {
+    kind == 0x30 || kind == 0x50
+}
+
+/// What the channel word says, or nothing if it is wrong.
+fn open_body(body: &[u8], kind: u8) -> Option<Shape> {
+    let word = read32(body.get(..4)?, 0);
+    if kind == 0x30 {
+        message_shape(word)
+    } else {
+        uart_shape(word)
+    }
 }
 
 /// 0x30: the type in bits 17-16 and the counter below it.
-fn message_shape(word: u32, rule: TimeRule) -> Option<Shape> {
+fn message_shape(word: u32) -> Option<Shape> {
     let counter = word & 0xFFFF;
     let count = match word >> 16 {
         0 if counter > 0 => counter as usize,
@@ -58,61 +78,67 @@ fn message_shape(word: u32, rule: TimeRule) -> Option<Shape> {
     Some(Shape {
         stamped: true,
         count: Some(count),
-        rule,
     })
 }
 
 /// 0x50: bit 31 says whether blocks have time stamps.
-fn uart_shape(word: u32, rule: TimeRule) -> Option<Shape> {
+fn uart_shape(word: u32) -> Option<Shape> {
     if word & 0x7FFF_FFFF != 0 {
         return None;
     }
     Some(Shape {
         stamped: word != 0,
         count: None,
-        rule,
     })
 }
 
 /// The number of blocks behind the channel word, or the place of the first fault.
-fn count_blocks(body: &[u8], shape: &Shape) -> Result<usize, usize> {
+fn count_blocks(body: &[u8], shape: Shape, rule: TimeRule) -> Result<usize, usize> {
+    let most = shape.count.unwrap_or(usize::MAX);
+    let mut rest = &body[4..];
     let mut blocks = 0;
-    let mut at = 4;
-    while !is_last(shape, body.len(), blocks, at) {
-        at = next_block(body, at, shape).ok_or(at)?;
+    loop {
+        rest = behind_block(rest, shape.stamped, rule).ok_or(body.len() - rest.len())?;
         blocks += 1;
+        if rest.is_empty() || blocks == most {
+            break;
+        }
     }
-    if at == body.len() {
+    if rest.is_empty() && (blocks == most || shape.count.is_none()) {
         Ok(blocks)
     } else {
-        Err(at)
+        Err(body.len() - rest.len())
     }
 }
 
-/// Whether no more blocks are to come, where the next would stand at `at`.
-fn is_last(shape: &Shape, length: usize, blocks: usize, at: usize) -> bool {
-    match shape.count {
-        Some(count) => count <= blocks,
-        None => blocks > 0 && length <= at,
+/// What follows the block at the first byte, or nothing if it breaks the layout.
+fn behind_block(block: &[u8], stamped: bool, rule: TimeRule) -> Option<&[u8]> {
+    let (head, bytes) = block_head(block, stamped)?;
+    let behind = bytes.get(head.length..)?;
+    if !rule.admits(head.time) || head.length == 0 {
+        return None;
+    }
+    if head.length % 2 == 0 {
+        return Some(behind);
+    }
+    match behind.split_first() {
+        Some((0, next)) => Some(next),
+        _ => None,
     }
 }
 
-/// The place behind the block at `at`, or nothing if it breaks the layout.
-fn next_block(body: &[u8], at: usize, shape: &Shape) -> Option<usize> {
-    let stamp_length = if shape.stamped { 8 } else { 0 };
-    let start = at + stamp_length + 4;
-    if body.len() < start {
+/// The head of a block and what follows it, if there is so much.
+fn block_head(block: &[u8], stamped: bool) -> Option<(Head, &[u8])> {
+    let head_length = if stamped { 12 } else { 4 };
+    if block.len() < head_length {
         return None;
     }
-    let time = if shape.stamped { read64(body, at) } else { 0 };
-    let length = (read32(body, at + stamp_length) & 0xFFFF) as usize;
-    let pad = start + length;
-    let next = pad + length % 2;
-    if body.len() < next || !shape.rule.admits(time) || length == 0 {
-        return None;
-    }
-    if body[pad..next].iter().any(|&byte| byte != 0) {
-        return None;
-    }
-    Some(next)
+    let (head, bytes) = block.split_at(head_length);
+    let id = read32(head, head_length - 4);
+    let head = Head {
+        time: if stamped { read64(head, 0) } else { 0 },
+        id,
+        length: (id & 0xFFFF) as usize,
+    };
+    Some((head, bytes))
 }

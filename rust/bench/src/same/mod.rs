@@ -1,17 +1,24 @@
 //! The library's method in plain safe Rust: the same tests in the same order, nothing kept and nothing allocated.
+//! Its five calls are not inlined into their callers, as the library's are not. What else is inlined the compiler chooses, as for the
+//! library; with the feature `inlined` the tests that the calls share are forced into each.
 mod body;
 mod frame;
+mod rules;
 pub mod units;
+mod write;
 
-use body::check_body;
-use frame::{check_frame, message_rule, Layout};
-use units::{read16, read32, read48, read64};
+use body::{check_body, messages};
+use frame::{check_frame, stored_sum, Layout};
+use rules::has_secondary;
+use units::{read16, read48, read64};
+pub use write::{write_packet, Given};
 
-/// A refusal's number, and its place counted from the buffer's first byte.
+/// A refusal's number, its place counted from the buffer's first byte, and the room needed (16; otherwise 0).
 #[derive(Clone, Copy)]
 pub struct Refusal {
     pub number: u8,
     pub place: usize,
+    pub room: usize,
 }
 
 /// Where a part of a packet stands in the buffer, and how many bytes it has.
@@ -48,6 +55,15 @@ pub struct Packet {
     pub sum: Part,
 }
 
+/// One message: its time (0 if none is stored), its ID word, and its bytes' start, counted from the packet's first byte, and number.
+#[derive(Clone, Copy)]
+pub struct Message {
+    pub time: u64,
+    pub id: u32,
+    pub start: usize,
+    pub length: usize,
+}
+
 /// What the reading of a recording gives; no refusal at the exact end.
 pub struct Recording {
     pub accepted: usize,
@@ -56,41 +72,34 @@ pub struct Recording {
 }
 
 /// Reads the packet at the start of a window. Refusals 1 to 15.
+#[inline(never)]
 pub fn read_packet(buffer: &[u8], start: usize, end: usize) -> Result<Packet, Refusal> {
-    let refuse = |number| Refusal {
-        number,
-        place: start,
-    };
-    let window = buffer.get(start..end).ok_or_else(|| refuse(1))?;
-    let layout = check_frame(window).map_err(refuse)?;
-    let body = &window[layout.body..layout.filler];
-    check_body(body, window[15], message_rule(window[14])).map_err(|place| Refusal {
-        number: 15,
-        place: start + layout.body + place,
-    })?;
+    let window = window_in(buffer, start, end)?;
+    let layout = check_packet(window, start)?;
     Ok(packet_in(window, start, &layout))
 }
 
 /// Reads the packets of a window, each at the end of the one before; the first that is refused ends the reading.
+#[inline(never)]
 pub fn read_recording(buffer: &[u8], start: usize, end: usize) -> Recording {
     let mut accepted = 0;
     let mut reached = start;
-    let mut refusal = None;
-    if buffer.get(start..end).is_none() {
-        refusal = Some(Refusal {
-            number: 1,
-            place: start,
-        });
-    }
-    while refusal.is_none() && reached < end {
-        match read_packet(buffer, reached, end) {
-            Ok(packet) => {
-                accepted += 1;
-                reached += packet.length as usize;
+    let refusal = match window_in(buffer, start, end) {
+        Err(refusal) => Some(refusal),
+        Ok(mut rest) => loop {
+            if rest.is_empty() {
+                break None;
             }
-            Err(reason) => refusal = Some(reason),
-        }
-    }
+            match check_packet(rest, reached) {
+                Ok(layout) => {
+                    accepted += 1;
+                    reached += layout.length;
+                    rest = &rest[layout.length..];
+                }
+                Err(refusal) => break Some(refusal),
+            }
+        },
+    };
     Recording {
         accepted,
         reached,
@@ -98,24 +107,100 @@ pub fn read_recording(buffer: &[u8], start: usize, end: usize) -> Recording {
     }
 }
 
+/// Fills two lists with the start, counted from the packet's first byte, and the length of each message, and gives their number.
+/// Refusals 1 to 15, then 16 where there are more messages than the shorter list holds.
+#[inline(never)]
+pub fn list_messages(
+    buffer: &[u8],
+    start: usize,
+    end: usize,
+    starts: &mut [u32],
+    lengths: &mut [u32],
+) -> Result<usize, Refusal> {
+    let window = window_in(buffer, start, end)?;
+    let (layout, count) = check_and_count(window, start)?;
+    if starts.len().min(lengths.len()) < count {
+        return Err(Refusal {
+            number: 16,
+            place: start,
+            room: count,
+        });
+    }
+    let body = &window[layout.body..layout.filler];
+    let entries = starts.iter_mut().zip(lengths);
+    for (message, (start, length)) in messages(body, layout.kind).zip(entries) {
+        *start = (layout.body + message.start) as u32;
+        *length = message.head.length as u32;
+    }
+    Ok(count)
+}
+
+/// The message of this number, from 0. Refusals 1 to 15, then 17 where there is none.
+#[inline(never)]
+pub fn message(buffer: &[u8], start: usize, end: usize, number: usize) -> Result<Message, Refusal> {
+    let window = window_in(buffer, start, end)?;
+    let layout = check_packet(window, start)?;
+    let body = &window[layout.body..layout.filler];
+    let found = messages(body, layout.kind).nth(number).ok_or(Refusal {
+        number: 17,
+        place: start,
+        room: 0,
+    })?;
+    Ok(Message {
+        time: found.head.time,
+        id: found.head.id,
+        start: layout.body + found.start,
+        length: found.head.length,
+    })
+}
+
+/// The bytes of a window, or 1 if it is outside the buffer.
+fn window_in(buffer: &[u8], start: usize, end: usize) -> Result<&[u8], Refusal> {
+    buffer.get(start..end).ok_or(Refusal {
+        number: 1,
+        place: start,
+        room: 0,
+    })
+}
+
+/// The layout of the packet at the window's first byte, or the first of 2 to 15 that applies.
+#[cfg_attr(feature = "inlined", inline(always))]
+fn check_packet(window: &[u8], start: usize) -> Result<Layout, Refusal> {
+    check_and_count(window, start).map(|(layout, _)| layout)
+}
+
+/// The layout and the number of messages, or the first of 2 to 15 that applies.
+#[cfg_attr(feature = "inlined", inline(always))]
+fn check_and_count(window: &[u8], start: usize) -> Result<(Layout, usize), Refusal> {
+    let refuse = |number, place| Refusal {
+        number,
+        place,
+        room: 0,
+    };
+    let layout = check_frame(window).map_err(|number| refuse(number, start))?;
+    let body = &window[layout.body..layout.filler];
+    let count = check_body(body, layout.kind, layout.flags)
+        .map_err(|place| refuse(15, start + layout.body + place))?;
+    Ok((layout, count))
+}
+
 /// The record of a packet that passed all tests.
 fn packet_in(window: &[u8], start: usize, layout: &Layout) -> Packet {
-    let length = read32(window, 4);
     let part = |from: usize, to: usize| Part {
         at: start + from,
         length: to - from,
     };
     Packet {
         fields: fields_in(window),
-        length,
-        data_length: read32(window, 8),
+        length: layout.length as u32,
+        data_length: (layout.filler - layout.body) as u32,
         header_sum: read16(window, 22),
-        data_sum: frame::stored_sum(window, layout.sum),
+        data_sum: stored_sum(&window[..layout.length], layout.flags),
         header: part(0, 24),
         secondary: part(24, layout.body),
         body: part(layout.body, layout.filler),
         filler: part(layout.filler, layout.sum),
-        sum: part(layout.sum, length as usize),
+        sum: part(layout.sum, layout.length),
     }
 }
 
@@ -128,7 +213,7 @@ fn fields_in(window: &[u8]) -> Fields {
         flags,
         kind: window[15],
         rtc: read48(window, 16),
-        time: if flags & 0x80 != 0 {
+        time: if has_secondary(flags) {
             read64(window, 24)
         } else {
             0

@@ -19,6 +19,15 @@ pub fn read64(bytes: &[u8], at: usize) -> u64 {
     u64::from_le_bytes(bytes[at..at + 8].try_into().unwrap())
 }
 
+/// Puts bytes down from `at` on.
+pub fn put(bytes: &mut [u8], at: usize, source: &[u8]) {
+    bytes[at..at + source.len()].copy_from_slice(source);
+}
+
+pub fn all_zero(bytes: &[u8]) -> bool {
+    bytes.iter().all(|&byte| byte == 0)
+}
+
 /// The sum of the bytes, modulo 2^8.
 pub fn sum8(bytes: &[u8]) -> u8 {
     bytes.iter().fold(0, |sum, &unit| sum.wrapping_add(unit))

@@ -1,5 +1,5 @@
-use Rattle.body.specs.Answers.{messageOf}
-use Rattle.body.proofs.Reading.{Reading, reading-first, reading-fits, reading-ahead}
+use Rattle.body.proofs.Counts.{has-messages, ReadingIn, in-first, in-fits, in-ahead, in-message}
+use Rattle.body.specs.Answers.{messageIn}
 use Prim.Native.Nat.{_≤_, _-_}
 use native.Mathlib.Omega.{arith}
 use mathlib.Core.Path.{_≡_, ap, _∙_}
@@ -8,38 +8,44 @@ use Rattle.body.proofs.list.seek.Statement.{statement}
 use Rattle.body.proofs.list.seek.Tie as tie
 
 abbrev Inv-loop : tie.InvT-loop
-Inv-loop body shape n k i₀ at₀ i at = (i ≤ k) × Reading shape body n i at
+Inv-loop body kind n k stamped i₀ at₀ i at = (i ≤ k) × ReadingIn kind body n i at
 
 abbrev μ-loop : tie.MeasureT-loop
-μ-loop body shape n k i₀ at₀ i at = k - i
+μ-loop body kind n k stamped i₀ at₀ i at = k - i
+
+stamps-requires : tie.Need-stamps-requires Inv-loop μ-loop
+stamps-requires c κs = has-messages _ _ _ _ (c .before .pre .0) (omega arith) .long
 
 loop-holds : tie.Need-loop-holds Inv-loop μ-loop
-loop-holds c = (omega arith, reading-first _ _ _ (c .before .pre .0) (c .before .pre .1))
+loop-holds c = (omega arith, in-first _ _ _ (omega arith))
 
 head-at-requires : tie.Need-head-at-requires Inv-loop μ-loop
-head-at-requires c κs = reading-fits _ _ _ _ _ (c .before .loop .inv .1) (omega arith)
+head-at-requires c κs =
+    let at-loop = c .before in
+    in-fits _ _ _ _ _ _ (at-loop .loop .inv .1) (omega arith) (at-loop .before .stamps .ensures) _ (at-loop .before .before .before .pre .0)
 
 block-end-requires : tie.Need-block-end-requires Inv-loop μ-loop
 block-end-requires c κs =
-    let read = c in
-    let f = reading-ahead _ _ _ _ _ (read .before .before .loop .inv .1) (omega arith) (read .head-at .result) (read .head-at .ensures) in
+    let at-loop = c .before .before in
+    let f = in-ahead _ _ _ _ _ _ (at-loop .loop .inv .1) (omega arith) (at-loop .before .stamps .ensures) _ (at-loop .before .before .before .pre .0) _ (c .head-at .ensures) in
     omega (arith, f .fits)
 
 loop-again : tie.Need-loop-again Inv-loop μ-loop
 loop-again c =
-    let read = c .before in
-    let f = reading-ahead _ _ _ _ _ (read .before .before .loop .inv .1) (omega arith) (read .head-at .result) (read .head-at .ensures) in
-    (omega arith, rw (c .block-end .ensures) (f .next))
+    let at-loop = c .before .before .before in
+    (omega arith, λ rule e. rw (c .block-end .ensures) (in-ahead _ _ _ _ _ _ (at-loop .loop .inv .1) (omega arith) (at-loop .before .stamps .ensures) rule e _ (c .before .head-at .ensures) .next))
 
 head-at-requires-2 : tie.Need-head-at-requires-2 Inv-loop μ-loop
-head-at-requires-2 c κs = reading-fits _ _ _ _ _ (c .before .loop .inv .1) (omega arith)
+head-at-requires-2 c κs =
+    let at-loop = c .before in
+    in-fits _ _ _ _ _ _ (at-loop .loop .inv .1) (omega arith) (at-loop .before .stamps .ensures) _ (at-loop .before .before .before .pre .0)
 
 returns : tie.Need-returns Inv-loop μ-loop
 returns c =
-    let l = c .before .before .loop in
-    let e : l .i ≡ c .before .before .before .before .args .k = omega arith in
-    let f = reading-ahead _ _ _ _ _ (l .inv .1) (omega arith) (c .head-at2 .result) (c .head-at2 .ensures) in
-    f .message ∙ ap (messageOf _ _) e
+    let at-loop = c .before .before in
+    let start = at-loop .before .before .before in
+    let e : at-loop .loop .i ≡ start .args .k = omega arith in
+    in-message _ _ _ _ _ _ (at-loop .loop .inv .1) (omega arith) (at-loop .before .stamps .ensures) _ (start .pre .0) _ (c .head-at2 .ensures) ∙ ap (messageIn _ _ _) e
 
 pub seek-spec : {M : Type 1} → statement M
 seek-spec =
@@ -47,6 +53,7 @@ seek-spec =
     (tie.spec
     Inv-loop
     μ-loop
+    stamps-requires
     loop-holds
     head-at-requires
     block-end-requires

@@ -1,0 +1,126 @@
+-- What the walk's plain numbers say of a body, and the shape of a body that has messages. Assumes nothing.
+use mathlib.Core.Path.{_≡_, refl, sym, ap, _∙_}
+use mathlib.Core.List.{List}
+use mathlib.Core.Bool.{Bool, true, false, _||_}
+use mathlib.Core.Logic.{⊎-elim}
+use Prim.Native.Nat.{ℕ, _+_, _^_, _≤_, _<_}
+use native.Mathlib.Omega.{arith}
+use lib.ListN.{length}
+use lib.Dec.{leb, eqb}
+use Rattle.units.specs.Units.{field}
+use Rattle.body.specs.Walk.{fault, opens, openBody, stampLength, headAt, walk}
+use Rattle.body.specs.Answers.{checkOpened, checkBody, walked, messageIn}
+use Rattle.body.specs.declared.TimeRule.{TimeRule}
+use Rattle.body.specs.declared.Shape.{Shape}
+use Rattle.body.specs.declared.Message.{Message}
+use Rattle.body.specs.declared.Opened.{Opened}
+use Rattle.body.specs.declared.Opened.the-variants.{Carried, Shaped, Wrong}
+use Rattle.body.specs.declared.Checked.{Checked}
+use Rattle.body.specs.declared.Checked.the-variants.{Counted, Faulty}
+use Rattle.body.specs.declared.Walked.{Walked}
+use Rattle.body.proofs.Walking.{open-long}
+use Rattle.body.proofs.Reading.{Reading, reading-first, ending-counted, Ahead, reading-fits, reading-ahead, message-shaped}
+use Rattle.body.proofs.Whole.{stop-some, known, open-not-carried}
+use Rattle.body.proofs.Bounds.{walk-end, faulty-is}
+
+-- ---- the walk's two numbers
+
+-- a body of an opened type never counts no messages
+counted-some : (kind : ℕ) (rule : TimeRule) (bs : List ℕ) (n : ℕ) → opens kind ≡ true → checkBody kind rule bs ≡ Counted n → 0 < n
+unfolding checkBody
+counted-some kind rule bs n o e = go (openBody kind rule bs) refl e
+  where
+    go : (x : Opened) → openBody kind rule bs ≡ x → checkOpened x bs ≡ Counted n → 0 < n
+    go Carried q h = absurd (open-not-carried kind rule bs o q)
+    go Wrong q h = let z : _≡_ {A = ℕ} 0 1 = cc in absurd (omega arith)
+    go (Shaped sh) q h =
+        let x = walk-end sh bs (open-long kind rule bs sh q) in
+        ⊎-elim
+        (λ s.
+        let k : x .blocks ≡ n = ending-counted (length bs) (x .blocks) (x .place) n (sym (s .1) ∙ h) .0 in
+        omega (arith, stop-some sh (length bs) (x .blocks) (x .place) (s .0) (known kind rule bs sh q .least) .1))
+        (λ s. let z : _≡_ {A = ℕ} 0 1 = cc (sym s ∙ h) in absurd (omega arith)) (x .how)
+
+module _ (kind : ℕ) (rule : TimeRule) (bs : List ℕ) (w : Walked) (o : opens kind ≡ true) (is : w ≡ walked (checkBody kind rule bs)) where
+  -- a count that is not 0 is the number of messages
+  pub walked-counted : (w .count ≡ 0 → ⊥) → checkBody kind rule bs ≡ Counted (w .count)
+  walked-counted some = go (checkBody kind rule bs) refl
+    where
+      go : (x : Checked) → checkBody kind rule bs ≡ x → checkBody kind rule bs ≡ Counted (w .count)
+      go (Counted n) e = e ∙ ap Counted (sym (ap (λ (x : Walked). x .count) (is ∙ ap walked e)))
+      go (Faulty f) e = absurd (some (ap (λ (x : Walked). x .count) (is ∙ ap walked e)))
+
+  -- a count of 0 is a fault, and the other number its place
+  pub walked-faulty : w .count ≡ 0 → checkBody kind rule bs ≡ Faulty (fault (w .place))
+  walked-faulty none = go (checkBody kind rule bs) refl
+    where
+      go : (x : Checked) → checkBody kind rule bs ≡ x → checkBody kind rule bs ≡ Faulty (fault (w .place))
+      go (Counted n) e =
+          let k : w .count ≡ n = ap (λ (x : Walked). x .count) (is ∙ ap walked e) in
+          absurd (omega (arith, counted-some kind rule bs n o e))
+      go (Faulty f) e =
+          let p : w .place ≡ f .place = ap (λ (x : Walked). x .place) (is ∙ ap walked e) in
+          e ∙ ap Faulty (faulty-is kind rule bs f e .0 ∙ ap fault (sym p))
+
+-- ---- the shape of a body that has messages
+
+-- the shape that a body opens to, where it has one
+abbrev shapeIn : TimeRule → Opened → Shape
+shapeIn rule Carried = record { stamped = false; counted = false; count = 0; rule = rule }
+shapeIn rule (Shaped sh) = sh
+shapeIn rule Wrong = record { stamped = false; counted = false; count = 0; rule = rule }
+
+unfoldable pub shapeOf : ℕ → TimeRule → List ℕ → Shape
+shapeOf kind rule bs = shapeIn rule (openBody kind rule bs)
+
+-- what is known of a body that has n messages
+pub record Has (kind : ℕ) (rule : TimeRule) (bs : List ℕ) (n : ℕ) : Type 0 where
+  pub opened : openBody kind rule bs ≡ Shaped (shapeOf kind rule bs)
+  pub counted : walk (shapeOf kind rule bs) bs ≡ Counted n
+  pub long : 4 ≤ length bs
+  pub stamps : (eqb kind 0x30 || leb (2 ^ 31) (field bs 0 4)) ≡ shapeOf kind rule bs .stamped
+
+-- for code that reads a body again once its messages are counted
+pub has-messages : (kind : ℕ) (rule : TimeRule) (bs : List ℕ) (n : ℕ) → checkBody kind rule bs ≡ Counted n → 0 < n → Has kind rule bs n
+unfolding checkBody shapeOf
+has-messages kind rule bs n e some = go (openBody kind rule bs) refl e
+  where
+    go : (x : Opened) → openBody kind rule bs ≡ x → checkOpened x bs ≡ Counted n → Has kind rule bs n
+    go Carried q h = let z : n ≡ 0 = cc in absurd (omega arith)
+    go Wrong q h = let z : _≡_ {A = ℕ} 0 1 = cc in absurd (omega arith)
+    go (Shaped sh) q h =
+        let is : sh ≡ shapeOf kind rule bs = sym (ap (shapeIn rule) q) in
+        record {
+          opened = q ∙ ap Shaped is;
+          counted = rw (← is) h;
+          long = open-long kind rule bs sh q;
+          stamps = rw (← is) (known kind rule bs sh q .stamps);
+        }
+
+-- ---- the loops over a body that has n messages
+
+-- a loop stands at `at` after k of n messages; its code does not hold the rule, so that this is said of every rule under which there are n
+abbrev pub ReadingIn : ℕ → List ℕ → ℕ → ℕ → ℕ → Type 0
+ReadingIn kind bs n k at = (rule : TimeRule) → checkBody kind rule bs ≡ Counted n → Reading (shapeOf kind rule bs) bs n k at
+
+-- the loops start behind the channel word
+pub in-first : (kind : ℕ) (bs : List ℕ) (n : ℕ) → 0 < n → ReadingIn kind bs n 0 4
+in-first kind bs n some rule e = let h = has-messages kind rule bs n e some in reading-first _ bs n (h .long) (h .counted)
+
+module _ (kind : ℕ) (bs : List ℕ) (n k at : ℕ) (stamped : Bool) (now : ReadingIn kind bs n k at) (more : k < n)
+    (is : stamped ≡ (eqb kind 0x30 || leb (2 ^ 31) (field bs 0 4))) (rule : TimeRule) (e : checkBody kind rule bs ≡ Counted n) where
+  -- the test that the code makes for stamps is the shape's
+  in-stamps : stamped ≡ shapeOf kind rule bs .stamped
+  in-stamps = is ∙ has-messages kind rule bs n e (omega arith) .stamps
+
+  -- while messages are left the head at `at` is whole
+  pub in-fits : at + stampLength stamped + 4 ≤ length bs
+  in-fits = rw in-stamps (reading-fits _ bs n k at (now rule e) more)
+
+  -- and what it says leads on to the next block
+  pub in-ahead : (m : Message) → m ≡ headAt stamped bs at → Ahead (shapeOf kind rule bs) bs n k at m
+  in-ahead m says = reading-ahead _ bs n k at (now rule e) more m (says ∙ ap (λ (b : Bool). headAt b bs at) in-stamps)
+
+  -- and is the k-th message
+  pub in-message : (m : Message) → m ≡ headAt stamped bs at → m ≡ messageIn kind rule bs k
+  in-message m says = in-ahead m says .message ∙ sym (message-shaped kind rule bs _ k (has-messages kind rule bs n e (omega arith) .opened))

@@ -1,0 +1,62 @@
+//! The library's calls by their C interface, on slices.
+use ch11::raw;
+
+pub fn read_packet(bytes: &[u8], start: usize, end: usize, packet: &mut raw::Packet) {
+    // SAFETY: the pointers are good for their lengths and don't overlap.
+    unsafe { raw::ch11_read_packet(bytes.as_ptr(), bytes.len(), start, end, packet) };
+}
+
+pub fn read_recording(bytes: &[u8], start: usize, end: usize, recording: &mut raw::Recording) {
+    // SAFETY: the pointers are good for their lengths and don't overlap.
+    unsafe { raw::ch11_read_recording(bytes.as_ptr(), bytes.len(), start, end, recording) };
+}
+
+pub fn list_messages(
+    bytes: &[u8],
+    start: usize,
+    end: usize,
+    starts: &mut [u32],
+    lengths: &mut [u32],
+    list: &mut raw::List,
+) {
+    // SAFETY: the pointers are good for their lengths and don't overlap.
+    unsafe {
+        raw::ch11_list_messages(
+            bytes.as_ptr(),
+            bytes.len(),
+            start,
+            end,
+            starts.as_mut_ptr(),
+            starts.len(),
+            lengths.as_mut_ptr(),
+            lengths.len(),
+            list,
+        )
+    };
+}
+
+pub fn message(bytes: &[u8], start: usize, end: usize, number: usize, message: &mut raw::Message) {
+    // SAFETY: the pointers are good for their lengths and don't overlap.
+    unsafe { raw::ch11_message(bytes.as_ptr(), bytes.len(), start, end, number, message) };
+}
+
+pub fn write_packet(fields: &raw::Fields, body: &[u8], out: &mut [u8], written: &mut raw::Written) {
+    // SAFETY: the pointers are good for their lengths and don't overlap.
+    unsafe {
+        raw::ch11_write_packet(
+            fields,
+            body.as_ptr(),
+            body.len(),
+            out.as_mut_ptr(),
+            out.len(),
+            written,
+        )
+    };
+}
+
+/// The number of messages in the packet at the start of a window; 0 if it is refused.
+pub fn count_messages(bytes: &[u8], start: usize, end: usize) -> usize {
+    let mut list = raw::List::default();
+    list_messages(bytes, start, end, &mut [], &mut [], &mut list);
+    list.refusal.room as usize
+}
