@@ -11,7 +11,13 @@ x86_tools
 x86_counting_tools
 mode=${1:-}
 rust=debian
-[ "$mode" != --own ] || rust=own
+case $mode in
+    '' | --markdown) ;;
+    --own) rust=own ;;
+    *) echo "count.sh: no option $mode" >&2 && exit 2 ;;
+esac
+# Counts are those of the plain build, whatever flags its user has set.
+unset RUSTFLAGS CARGO_ENCODED_RUSTFLAGS RUSTC_WRAPPER
 
 # Builds the program with these options of cargo in a folder of its own.
 built() {
@@ -33,8 +39,15 @@ emulate() {
 }
 
 # All instructions of a program when it makes so many passes over an input on a side; the plugin prints them behind everything else.
+# A program that fails, or prints anything else, stops the script.
 instructions() {
-    emulate -plugin "$plugin" "$1" count "$2" "$3" "$4" 2>&1 | tail -1
+    local printed code=0
+    printed=$(emulate -plugin "$plugin" "$1" count "$2" "$3" "$4" 2>&1) || code=$?
+    if [ $code -ne 0 ] || ! [[ $printed =~ ^[0-9]+$ ]]; then
+        echo "$2, side $3: not counted; the program ended with $code and printed: $printed" >&2
+        return 1
+    fi
+    echo "$printed"
 }
 
 # One pass: what 3 passes take more than 1, halved, so that starting and making the input drop out.
@@ -47,12 +60,14 @@ one_pass() {
 
 # A line for each input: name, packets of a pass, counts of library, Rust, inlined Rust and read-only pass (- where it is no measure).
 count_all() {
-    local name packets read_only
+    local name packets read_only library rust forced
     while read -r name packets read_only; do
+        library=$(one_pass "$bench" "$name" library)
+        rust=$(one_pass "$bench" "$name" rust)
+        forced=$(one_pass "$inlined" "$name" rust)
         [ "$read_only" = - ] || read_only=$(one_pass "$bench" "$name" read)
-        echo "$name $packets $(one_pass "$bench" "$name" library) $(one_pass "$bench" "$name" rust)" \
-            "$(one_pass "$inlined" "$name" rust) $read_only"
-    done < <(emulate "$bench" inputs)
+        echo "$name $packets $library $rust $forced $read_only"
+    done <<<"$inputs"
 }
 
 # A number with commas; - as it is.
@@ -82,27 +97,42 @@ print_table() {
     done <<<"$counts"
 }
 
-# The library's count for an input in the document's table of instructions; nothing if it isn't there.
-stated_for() {
-    awk -F ' *[|] *' -v input="$1" '
+# Each row of the document's table of instructions: the input and the library's count.
+stated_rows() {
+    awk -F ' *[|] *' '
         /^## / { inside = /^## Instructions/ }
-        inside && $2 == input { gsub(",", "", $3); print $3 }' "$document"
+        inside && $3 ~ /^[0-9]/ { gsub(",", "", $3); print $2, $3 }' "$document"
+}
+
+# The library's count that the document states for an input; nothing if it has no such row.
+stated_for() {
+    awk -v input="$1" '$1 == input { print $2 }' <<<"$stated"
 }
 
 # Says what is wrong with an input's counts, if anything is.
 faults_of() {
-    local name=$1 library=$2 rust=$3 stated
-    stated=$(stated_for "$name")
-    if ! [[ $stated =~ ^[0-9]+$ ]]; then
+    local name=$1 library=$2 rust=$3 limit
+    limit=$(stated_for "$name")
+    if ! [[ $limit =~ ^[0-9]+$ ]]; then
         echo "$name: the library took $library, and docs/BENCH.md has no such row"
-    elif [ $((library * 100)) -gt $((stated * 103)) ]; then
-        echo "$name: the library took $library, over 3 % more than the $stated that docs/BENCH.md states"
+    elif [ $((library * 100)) -gt $((limit * 103)) ]; then
+        echo "$name: the library took $library, over 3 % more than the $limit that docs/BENCH.md states"
     fi
     if [[ $name == 512K-sum* ]] && [ $((library * 2)) -gt $((rust * 3)) ]; then
         echo "$name: the library took $library, over 1.5 times Rust's $rust"
     fi
 }
 
+# Names the rows of the document that were not counted.
+uncounted() {
+    local name
+    while read -r name _; do
+        grep -q "^$name " <<<"$counts" || echo "$name: docs/BENCH.md has this row, and it was not counted"
+    done <<<"$stated"
+}
+
+inputs=$(emulate "$bench" inputs)
+stated=$(stated_rows)
 counts=$(count_all)
 if [ "$mode" = --markdown ]; then
     echo '| Input | Library | Rust | Ratio | Rust, inlined | Ratio | Library, a packet | Rust, a packet | Read-only |'
@@ -119,5 +149,5 @@ format='%-16s %10s %10s %6s %10s %6s %9s %9s %9s\n'
 printf "$format" input library Rust ratio inlined ratio library/1 Rust/1 read-only
 print_table "$format"
 [ "$rust" = debian ] || exit 0
-faults=$(while read -r name _ library rust _; do faults_of "$name" "$library" "$rust"; done <<<"$counts")
+faults=$(while read -r name _ library rust _; do faults_of "$name" "$library" "$rust"; done <<<"$counts"; uncounted)
 [ -z "$faults" ] || { echo "$faults" >&2; exit 1; }

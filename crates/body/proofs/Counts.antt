@@ -1,15 +1,14 @@
 -- What the walk's plain numbers say of a body, and the shape of a body that has messages. Assumes nothing.
 use mathlib.Core.Path.{_≡_, refl, sym, ap, _∙_}
 use mathlib.Core.List.{List}
-use mathlib.Core.Bool.{Bool, true, false, _||_}
+use mathlib.Core.Bool.{Bool, true, false}
 use mathlib.Core.Logic.{⊎-elim}
-use Prim.Native.Nat.{ℕ, _+_, _^_, _≤_, _<_}
+use Prim.Native.Nat.{ℕ, _+_, _≤_, _<_}
 use native.Mathlib.Omega.{arith}
 use lib.ListN.{length}
-use lib.Dec.{leb, eqb}
-use Rattle.units.specs.Units.{field}
 use Rattle.body.specs.Walk.{fault, opens, openBody, stampLength, headAt, walk}
-use Rattle.body.specs.Answers.{checkOpened, checkBody, walked, messageIn}
+use Rattle.body.specs.Answers.{checkOpened, checkBody, messageIn}
+use Rattle.body.specs.Inner.{stampsIn, walked}
 use Rattle.body.specs.declared.TimeRule.{TimeRule}
 use Rattle.body.specs.declared.Shape.{Shape}
 use Rattle.body.specs.declared.Message.{Message}
@@ -78,7 +77,7 @@ pub record Has (kind : ℕ) (rule : TimeRule) (bs : List ℕ) (n : ℕ) : Type 0
   pub opened : openBody kind rule bs ≡ Shaped (shapeOf kind rule bs)
   pub counted : walk (shapeOf kind rule bs) bs ≡ Counted n
   pub long : 4 ≤ length bs
-  pub stamps : (eqb kind 0x30 || leb (2 ^ 31) (field bs 0 4)) ≡ shapeOf kind rule bs .stamped
+  pub stamps : stampsIn kind bs ≡ shapeOf kind rule bs .stamped
 
 -- for code that reads a body again once its messages are counted
 pub has-messages : (kind : ℕ) (rule : TimeRule) (bs : List ℕ) (n : ℕ) → checkBody kind rule bs ≡ Counted n → 0 < n → Has kind rule bs n
@@ -108,7 +107,7 @@ pub in-first : (kind : ℕ) (bs : List ℕ) (n : ℕ) → 0 < n → ReadingIn ki
 in-first kind bs n some rule e = let h = has-messages kind rule bs n e some in reading-first _ bs n (h .long) (h .counted)
 
 module _ (kind : ℕ) (bs : List ℕ) (n k at : ℕ) (stamped : Bool) (now : ReadingIn kind bs n k at) (more : k < n)
-    (is : stamped ≡ (eqb kind 0x30 || leb (2 ^ 31) (field bs 0 4))) (rule : TimeRule) (e : checkBody kind rule bs ≡ Counted n) where
+    (is : stamped ≡ stampsIn kind bs) (rule : TimeRule) (e : checkBody kind rule bs ≡ Counted n) where
   -- the test that the code makes for stamps is the shape's
   in-stamps : stamped ≡ shapeOf kind rule bs .stamped
   in-stamps = is ∙ has-messages kind rule bs n e (omega arith) .stamps

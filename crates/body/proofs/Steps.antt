@@ -7,7 +7,8 @@ use native.Mathlib.Omega.{arith}
 use lib.ListN.{length}
 use lib.Dec.{leb}
 use borrow.Author.Tests.{lt-ltb, lt-leb, le-ltb}
-use Rattle.body.specs.Walk.{fault, stampLength, headAt, judge, past, blockAt, stopAt, walk}
+use Rattle.body.specs.Walk.{fault, stampLength, headAt, judge, blockAt, stopAt, walk}
+use Rattle.body.specs.Inner.{past}
 use Rattle.body.specs.declared.Shape.{Shape}
 use Rattle.body.specs.declared.Message.{Message}
 use Rattle.body.specs.declared.Block.{Block}

@@ -7,7 +7,8 @@ use native.Mathlib.Nat.{mod-eq-of-lt}
 use lib.Dec.{ltb, eqb}
 use lib.Bits.{bitAnd, and-mask, and-zero-r}
 use borrow.Author.Tests.{lt-ltb, le-ltb, ne-eqb}
-use Rattle.body.specs.Times.{timeOk, maskOf, limitOf}
+use Rattle.body.specs.Times.{timeOk}
+use Rattle.body.specs.Inner.{maskOf, limitOf}
 use Rattle.body.specs.declared.TimeRule.{TimeRule}
 use Rattle.body.specs.declared.TimeRule.the-variants.{Counter, Chapter4, Ieee1588, Extended}
 
@@ -23,10 +24,13 @@ in-form Chapter4 t h = ap (λ (n : ℕ). ltb n 1) (and-mask t 16) ∙ none (t % 
 in-form Ieee1588 t h = ap (λ (n : ℕ). ltb n 1000000000) (and-mask t 32)
 in-form Extended t h = ap (λ (n : ℕ). ltb n 1) (and-zero-r t)
 
--- the two ways of the code's test
+-- the code's test, and its two ways
 module _ (rule : TimeRule) (mask limit t : ℕ) (numbers : (mask ≡ maskOf rule) × (limit ≡ limitOf rule)) (h : t < 2 ^ 64) where
+  pub form-is : ltb (bitAnd t mask) limit ≡ timeOk rule t
+  form-is = rw (numbers .0, numbers .1) (in-form rule t h)
+
   pub form-kept : bitAnd t mask < limit → timeOk rule t ≡ true
-  form-kept l = sym (in-form rule t h) ∙ rw (← numbers .0, ← numbers .1) (lt-ltb _ _ l)
+  form-kept l = sym form-is ∙ lt-ltb _ _ l
 
   pub form-broken : limit ≤ bitAnd t mask → timeOk rule t ≡ false
-  form-broken l = sym (in-form rule t h) ∙ rw (← numbers .0, ← numbers .1) (le-ltb _ _ l)
+  form-broken l = sym form-is ∙ le-ltb _ _ l

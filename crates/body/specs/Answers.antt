@@ -13,7 +13,6 @@ use Rattle.body.specs.declared.Message.{Message}
 use Rattle.body.specs.declared.Block.{Block}
 use Rattle.body.specs.declared.Block.the-variants.{Found, Broken}
 use Rattle.body.specs.declared.Checked.{Checked}
-use Rattle.body.specs.declared.Walked.{Walked}
 use Rattle.body.specs.declared.Checked.the-variants.{Counted, Faulty}
 use Rattle.body.specs.declared.Picked.{Picked}
 use Rattle.body.specs.declared.Picked.the-variants.{One, Unread, Missing}
@@ -29,11 +28,6 @@ checkOpened Wrong bs = Faulty (fault 0)
 
 unfoldable pub checkBody : ℕ → TimeRule → List ℕ → Checked
 checkBody kind rule bs = checkOpened (openBody kind rule bs) bs
-
--- the same in plain numbers: how many, or 0 and the place of the fault
-abbrev pub walked : Checked → Walked
-walked (Counted n) = record { count = n; place = 0 }
-walked (Faulty f) = record { count = 0; place = f .place }
 
 -- ---- the k-th message, from 0
 

@@ -1,6 +1,6 @@
 -- Time rules (document 01, "Secondary header" and "Opened bodies"): one definition for message times and the secondary time.
 use mathlib.Core.Bool.{Bool, true}
-use Prim.Native.Nat.{ℕ, _-_, _%_, _^_}
+use Prim.Native.Nat.{ℕ, _%_, _^_}
 use lib.Dec.{ltb, eqb}
 use Rattle.units.specs.Choice.{pick}
 use Rattle.body.specs.declared.TimeRule.{TimeRule}
@@ -21,16 +21,3 @@ timeOk Extended t = true
 -- 0, no rule, tests no time, and 5 and above are refused: what they give here has no say
 unfoldable pub ruleOf : ℕ → TimeRule
 ruleOf n = pick (eqb n 1) Counter (pick (eqb n 2) Chapter4 (pick (eqb n 3) Ieee1588 Extended))
-
--- a rule as two numbers, for code in a loop: the bits of a time under the mask stay below the limit (in-form)
-unfoldable pub maskOf : TimeRule → ℕ
-maskOf Counter = 2 ^ 64 - 1
-maskOf Chapter4 = 2 ^ 16 - 1
-maskOf Ieee1588 = 2 ^ 32 - 1
-maskOf Extended = 0
-
-unfoldable pub limitOf : TimeRule → ℕ
-limitOf Counter = 2 ^ 48
-limitOf Chapter4 = 1
-limitOf Ieee1588 = 1000000000
-limitOf Extended = 1

@@ -104,11 +104,6 @@ blockAt sh bs at =
     (pick (ltb (length bs) (at + stampLength (sh .stamped) + 4)) (Broken (fault at))
     (judge (sh .rule) bs at (headAt (sh .stamped) bs at)))
 
--- the place behind a block that is found, else 0
-abbrev pub past : Block → ℕ
-past (Found m next) = next
-past (Broken f) = 0
-
 -- ---- the walk
 
 abbrev pub behind : Block → ℕ

@@ -1,11 +1,10 @@
 // The channel word of an opened body.
 ghost use mathlib.Core.Path.{_≡_};
-ghost use mathlib.Core.Bool.{true, _||_};
-ghost use Prim.Native.Nat.{_^_, _≤_};
+ghost use mathlib.Core.Bool.{true};
+ghost use Prim.Native.Nat.{_≤_};
 ghost use lib.ListN.{length};
-ghost use lib.Dec.{leb, eqb};
-ghost use Rattle.units.specs.Units.{field};
 ghost use Rattle.body.specs.Walk.{opens, counterOk, messageShape, uartShape, openBody};
+ghost use Rattle.body.specs.Inner.{stampsIn};
 use crate::Opened;
 use crate::Shape;
 use crate::TimeRule;
@@ -22,7 +21,13 @@ pub fn opens_kind(kind: u8) -> bool
 fn counter_ok(form: u32, counter: u32) -> bool
     ensures { λ r. ⌜ r ≡ counterOk form counter ⌝ }
 {
-    ((form == 0) & (0 < counter)) | ((form == 1) & (counter == 1)) | ((1 < form) & (1 < counter))
+    if form == 0 {
+        return 0 < counter;
+    }
+    if form == 1 {
+        return counter == 1;
+    }
+    1 < counter
 }
 
 // 0x30: the type and the counter.
@@ -31,24 +36,14 @@ fn message_shape(rule: TimeRule, word: u32) -> Opened
 {
     let form = word / 0x1_0000;
     let counter = word % 0x1_0000;
-    if form == 0 {
-        if counter == 0 {
-            return Opened::Wrong;
-        }
-        return Opened::Shaped(Shape {
-            stamped: true,
-            counted: true,
-            count: counter as usize,
-            rule,
-        });
-    }
     if !((word < 0x4_0000) & counter_ok(form, counter)) {
         return Opened::Wrong;
     }
+    let count = if form == 0 { counter as usize } else { 1 };
     Opened::Shaped(Shape {
         stamped: true,
         counted: true,
-        count: 1,
+        count,
         rule,
     })
 }
@@ -88,7 +83,7 @@ pub fn open_body(body: &[u8], kind: u8, rule: TimeRule) -> Opened
 // Whether the blocks of a body of an opened type have time stamps.
 pub fn stamps(body: &[u8], kind: u8) -> bool
     requires { ⌜ 4 ≤ length (now body) ⌝ }
-    ensures { λ r. ⌜ r ≡ (eqb kind 0x30 || leb (2 ^ 31) (field (now (body .entry)) 0 4)) ⌝ }
+    ensures { λ r. ⌜ r ≡ stampsIn kind (now (body .entry)) ⌝ }
 {
     (kind == 0x30) | (0x8000_0000 <= read32(body, 0))
 }

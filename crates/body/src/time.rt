@@ -1,37 +1,17 @@
 // Time rules, for message times and the secondary time alike.
 ghost use mathlib.Core.Path.{_≡_};
-ghost use Rattle.body.specs.Times.{timeOk, ruleOf, maskOf, limitOf};
+ghost use Rattle.body.specs.Times.{timeOk, ruleOf};
+ghost use Rattle.body.specs.Inner.{maskOf, limitOf};
 use crate::TimeRule;
 
 // Whether a time is in form.
 pub fn time_ok(rule: TimeRule, time: u64) -> bool
     ensures { λ r. ⌜ r ≡ timeOk rule time ⌝ }
 {
-    match rule {
-        TimeRule::Counter => time < 0x1_0000_0000_0000,
-        TimeRule::Chapter4 => time % 0x1_0000 == 0,
-        TimeRule::Ieee1588 => time % 0x1_0000_0000 < 1_000_000_000,
-        TimeRule::Extended => true,
-    }
+    time & mask_of(rule) < limit_of(rule)
 }
 
-// The rule of a number: 1 the counter, else 2 and the time format.
-pub fn rule_of(number: u8) -> TimeRule
-    ensures { λ r. ⌜ r ≡ ruleOf number ⌝ }
-{
-    if number == 1 {
-        return TimeRule::Counter;
-    }
-    if number == 2 {
-        return TimeRule::Chapter4;
-    }
-    if number == 3 {
-        return TimeRule::Ieee1588;
-    }
-    TimeRule::Extended
-}
-
-// A rule as two numbers, for a loop: the bits under the mask stay below the limit.
+// A rule as two numbers: the bits under the mask stay below the limit. A loop takes them once.
 pub fn mask_of(rule: TimeRule) -> u64
     ensures { λ r. ⌜ r ≡ maskOf rule ⌝ }
 {
@@ -52,4 +32,20 @@ pub fn limit_of(rule: TimeRule) -> u64
         TimeRule::Ieee1588 => 1_000_000_000,
         TimeRule::Extended => 1,
     }
+}
+
+// The rule of a number: 1 the counter, else 2 and the time format.
+pub fn rule_of(number: u8) -> TimeRule
+    ensures { λ r. ⌜ r ≡ ruleOf number ⌝ }
+{
+    if number == 1 {
+        return TimeRule::Counter;
+    }
+    if number == 2 {
+        return TimeRule::Chapter4;
+    }
+    if number == 3 {
+        return TimeRule::Ieee1588;
+    }
+    TimeRule::Extended
 }

@@ -3,9 +3,9 @@ ghost use mathlib.Core.Path.{_≡_};
 ghost use Prim.Native.Nat.{_+_, _^_, _≤_, _<_};
 ghost use lib.ListN.{length};
 ghost use mathlib.Core.Bool.{true};
-ghost use Rattle.body.specs.Times.{maskOf, limitOf};
-ghost use Rattle.body.specs.Walk.{opens, stampLength, headAt, blockEnd, judge, blockAt, past, stopAt, walk};
-ghost use Rattle.body.specs.Answers.{checkBody, walked};
+ghost use Rattle.body.specs.Inner.{maskOf, limitOf, past, walked};
+ghost use Rattle.body.specs.Walk.{opens, stampLength, headAt, blockEnd, judge, blockAt, stopAt, walk};
+ghost use Rattle.body.specs.Answers.{checkBody};
 use crate::Message;
 use crate::Opened;
 use crate::Shape;
@@ -135,7 +135,8 @@ fn count_blocks(body: &[u8], shape: Shape) -> Walked
     }
 }
 
-// The walk over a body of an opened type: its messages, or its first fault. The part is the whole, as in units::data_sum.
+// The walk over a body of an opened type, which is never `Carried`: its messages, or its first fault.
+// `[0..]` keeps the slice in registers (docs/DECISIONS.md, "Speed").
 pub fn walk_body(body: &[u8], kind: u8, rule: TimeRule) -> Walked
     requires { ⌜ opens kind ≡ true ⌝ }
     ensures { λ r. ⌜ r ≡ walked (checkBody kind rule (now (body .entry))) ⌝ }

@@ -18,6 +18,7 @@ use words::list_words;
 use words::message_words;
 use words::packet_words;
 use words::recording_words;
+use words::refused_words;
 use words::written_words;
 
 // Reads the packet at the start of a window: packet::read_packet.
@@ -36,10 +37,7 @@ pub extern "C" fn ch11_read_packet(
             0
         }
         PacketRead::Refused(f) => {
-            *packet = [0; 24];
-            packet[0] = f.number as u64;
-            packet[1] = f.place as u64;
-            packet[2] = f.room as u64;
+            *packet = refused_words(f);
             f.number as u64
         }
     }

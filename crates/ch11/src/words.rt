@@ -1,10 +1,11 @@
 // An answer as the words of its struct.
 ghost use mathlib.Core.Path.{_≡_};
 ghost use Rattle.packet.specs.Read.{told};
-ghost use Rattle.packet.specs.declared.PacketRead.the-variants.{Accepted};
+ghost use Rattle.packet.specs.declared.PacketRead.the-variants.{Accepted, Refused};
 ghost use Rattle.packet.specs.Messages.{listTold, messageTold};
 ghost use Rattle.packet.specs.Write.{writeTold};
 ghost use Rattle.ch11.specs.Words.{packetWords, listWords, messageWords, recordingWords, writtenWords};
+use body::Refusal;
 use packet::Packet;
 use packet::PacketList;
 use packet::PacketMessage;
@@ -41,6 +42,17 @@ pub fn packet_words(p: Packet) -> [u64; 24]
         p.sum.at as u64,
         p.sum.length as u64,
     ]
+}
+
+// struct ch11_packet of a refusal. Apart from the accepted packet's: a struct made of both would be copied.
+pub fn refused_words(f: Refusal) -> [u64; 24]
+    ensures { λ r. ⌜ r ≡ packetWords (told (Refused f)) ⌝ }
+{
+    let mut words = [0; 24];
+    words[0] = f.number as u64;
+    words[1] = f.place as u64;
+    words[2] = f.room as u64;
+    words
 }
 
 // struct ch11_list.

@@ -72,7 +72,7 @@ pub fn sum_length(flags: u8) -> u64
 pub fn body_at(flags: u8) -> u64
     ensures { λ r. ⌜ (r ≡ bodyAt flags) × (r ≤ 36) ⌝ }
 {
-    24 + 12 * ((flags / 128 % 2) as u64)
+    if flags < 128 { 24 } else { 36 }
 }
 
 // P's parts without the filler, in 64 bits.

@@ -23,7 +23,7 @@ use units::read48;
 use units::read64;
 use units::secondary_sum;
 
-// The first of 2 to 14 that applies, or 0. The part is the whole, as in units::data_sum.
+// The first of 2 to 14 that applies, or 0. `[0..]` keeps the slice in registers (docs/DECISIONS.md, "Speed").
 pub fn frame_refusal(w: &[u8]) -> u8
     ensures { λ r. ⌜ r ≡ first (frameLines (now (w .entry))) ⌝ }
 {

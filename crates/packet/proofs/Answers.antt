@@ -32,7 +32,8 @@ use Rattle.frame.specs.declared.Layout.{Layout}
 use Rattle.frame.specs.declared.Fields.{Fields}
 use Rattle.frame.proofs.Tables.{stands, passes, holds}
 use Rattle.frame.proofs.Frames.{frame-sound}
-use Rattle.packet.specs.Read.{inside, window, outerLines, outerRefusal, partAt, packetIn, bodyChecked, bodyAnswer, readPacket, passOf}
+use Rattle.packet.specs.Read.{inside, window, outerLines, outerRefusal, partAt, packetIn, bodyChecked, bodyAnswer, readPacket}
+use Rattle.packet.specs.Inner.{passOf}
 use Rattle.packet.specs.Messages.{countOf, messageCount, kthMessage, listAnswer, listPacket, listAfter, starts, lengths, messageAnswer, messagePacket}
 use Rattle.packet.specs.declared.Packet.{Packet}
 use Rattle.packet.specs.declared.PacketRead.{PacketRead}

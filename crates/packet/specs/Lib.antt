@@ -1,3 +1,4 @@
 pub mod Read
 pub mod Messages
 pub mod Write
+pub mod Inner

@@ -19,8 +19,6 @@ use Rattle.packet.specs.declared.Part.{Part}
 use Rattle.packet.specs.declared.Packet.{Packet}
 use Rattle.packet.specs.declared.PacketRead.{PacketRead}
 use Rattle.packet.specs.declared.PacketRead.the-variants.{Accepted, Refused}
-use Rattle.packet.specs.declared.PacketPass.{PacketPass}
-use Rattle.packet.specs.declared.PacketPass.the-variants.{Passed, Barred}
 
 -- ---- the window
 
@@ -87,12 +85,6 @@ readPacket buf start end =
     pick (not (eqb (outerRefusal buf start end) 0))
     (Refused (refused (outerRefusal buf start end) start 0))
     (bodyAnswer (bodyChecked (window buf start end)) (window buf start end) start)
-
--- ---- the answer to a reader of many packets: the packet's length, or the refusal
-
-abbrev pub passOf : PacketRead → PacketPass
-passOf (Accepted p) = Passed (p .length)
-passOf (Refused r) = Barred r
 
 -- ---- document 01's number and values of an answer
 

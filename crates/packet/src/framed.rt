@@ -3,7 +3,8 @@ ghost use mathlib.Core.Path.{_≡_};
 ghost use Prim.Native.Nat.{_+_, _^_, _<_, min};
 ghost use lib.ListN.{length};
 ghost use Rattle.frame.specs.Inner.{Sound};
-ghost use Rattle.packet.specs.Read.{outerRefusal, packetIn, bodyChecked, bodyAnswer, passOf};
+ghost use Rattle.packet.specs.Read.{outerRefusal, packetIn, bodyChecked, bodyAnswer};
+ghost use Rattle.packet.specs.Inner.{passOf};
 ghost use Rattle.packet.specs.Messages.{messageCount, kthMessage, listAnswer, listAfter, starts as Messages·starts, lengths as Messages·lengths, messageAnswer};
 use crate::Packet;
 use crate::PacketList;
@@ -45,10 +46,9 @@ pub fn pass_framed(w: &[u8], at: usize) -> PacketPass
     requires { ⌜ at + length (now w) < 2 ^ 64 ⌝ }
     ensures { λ r. ⌜ r ≡ passOf (bodyAnswer (bodyChecked (now (w .entry))) (now (w .entry)) at) ⌝ }
 {
-    let length = read32(w, 4);
     let kind = w[15];
     if !opens_kind(kind) {
-        return PacketPass::Passed(length);
+        return PacketPass::Passed(read32(w, 4));
     }
     let layout = measure(w);
     let body = layout.body;
@@ -57,7 +57,7 @@ pub fn pass_framed(w: &[u8], at: usize) -> PacketPass
     if walked.count == 0 {
         return PacketPass::Barred(fault(at + body + walked.place));
     }
-    PacketPass::Passed(length)
+    PacketPass::Passed(read32(w, 4))
 }
 
 // 15, or the packet.

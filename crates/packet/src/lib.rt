@@ -3,7 +3,8 @@
 ghost use mathlib.Core.Path.{_≡_};
 ghost use lib.ListN.{length};
 ghost use Prim.Native.Nat.{_≤_};
-ghost use Rattle.packet.specs.Read.{window, readPacket, passOf};
+ghost use Rattle.packet.specs.Read.{window, readPacket};
+ghost use Rattle.packet.specs.Inner.{passOf};
 ghost use Rattle.packet.specs.Messages.{listPacket, listAfter, starts as Messages·starts, lengths as Messages·lengths, messagePacket};
 ghost use Rattle.packet_bytes.specs.Bytes.{packetBytes};
 ghost use Rattle.packet.specs.Write.{writePacket, outAfter};

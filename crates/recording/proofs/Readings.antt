@@ -11,7 +11,8 @@ use borrow.Author.Tests.{le-leb, lt-leb}
 use Rattle.units.specs.Choice.{pick}
 use Rattle.body.specs.Walk.{refused}
 use Rattle.body.specs.declared.Refusal.{Refusal}
-use Rattle.packet.specs.Read.{inside, readPacket, passOf, noRefusal}
+use Rattle.packet.specs.Read.{inside, readPacket, noRefusal}
+use Rattle.packet.specs.Inner.{passOf}
 use Rattle.packet.specs.declared.Packet.{Packet}
 use Rattle.packet.specs.declared.PacketRead.{PacketRead}
 use Rattle.packet.specs.declared.PacketRead.the-variants.{Accepted, Refused}

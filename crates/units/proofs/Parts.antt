@@ -23,11 +23,11 @@ drop-take (suc b) zero l = rw zero-sub
 drop-take (suc b) (suc n) [] = sym (take-nil (suc n - suc b))
 drop-take (suc b) (suc n) (x ∷ xs) = rw suc-sub-suc (drop-take b n xs)
 
--- one behind the other
 -- the part that is the whole
 pub part-whole : (bs : List ℕ) → part bs 0 (length bs - 0) ≡ bs
 part-whole bs = let e : length bs - 0 ≡ length bs = omega arith in rw e (take-length bs)
 
+-- one behind the other
 pub part-add : (bs : List ℕ) (at n m : ℕ) → part bs at (n + m) ≡ part bs at n ++ part bs (at + n) m
 part-add bs at n m = take-add n m (drop at bs) ∙ ap (λ (l : List ℕ). part bs at n ++ take m l) (drop-drop n at bs)
 

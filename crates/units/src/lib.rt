@@ -170,14 +170,14 @@ pub fn secondary_sum(header: &[u8]) -> u16
     sum16(header, 5)
 }
 
-// The same sums of many units. What fills no whole line of 128 bytes is added first; the rest are four lanes of equal length, one
+// The same sums of many units. What fills no whole line of 256 bytes is added first; the rest are four lanes of equal length, one
 // behind the other, added side by side: the compiler makes one vector loop of them, 128 bytes a turn.
 fn lanes8(s: &[u8], n: usize) -> u8
     requires { ⌜ n ≤ length (now s) ⌝ }
     ensures { λ r. ⌜ r ≡ checksum 1 n (now (s .entry)) ⌝ }
 {
-    let rest = n % 128;
-    let lane = n / 128 * 32;
+    let rest = n % 256;
+    let lane = n / 256 * 64;
     let mut acc = sum8(s, rest);
     for i in rest..rest + lane {
         acc = std::num::wrapping_add_u8(acc, s[i]);
@@ -192,8 +192,8 @@ fn lanes16(s: &[u8], n: usize) -> u16
     requires { ⌜ 2 * n ≤ length (now s) ⌝ }
     ensures { λ r. ⌜ r ≡ checksum 2 n (now (s .entry)) ⌝ }
 {
-    let rest = n % 64;
-    let lane = n / 64 * 16;
+    let rest = n % 128;
+    let lane = n / 128 * 32;
     let mut acc = sum16(s, rest);
     for i in rest..rest + lane {
         acc = std::num::wrapping_add_u16(acc, read16(s, 2 * i));
@@ -208,8 +208,8 @@ fn lanes32(s: &[u8], n: usize) -> u32
     requires { ⌜ 4 * n ≤ length (now s) ⌝ }
     ensures { λ r. ⌜ r ≡ checksum 4 n (now (s .entry)) ⌝ }
 {
-    let rest = n % 32;
-    let lane = n / 32 * 8;
+    let rest = n % 64;
+    let lane = n / 64 * 16;
     let mut acc = sum32(s, rest);
     for i in rest..rest + lane {
         acc = std::num::wrapping_add_u32(acc, read32(s, 4 * i));
@@ -221,7 +221,7 @@ fn lanes32(s: &[u8], n: usize) -> u32
 }
 
 // The data sum of body and filler by bits 1-0 of the flags: none (0), 8, 16 or 32 bits.
-// The part is the whole: the compiler passes a slice of which only parts are made in registers.
+// `[0..]` keeps the slice in registers (docs/DECISIONS.md, "Speed").
 pub fn data_sum(s: &[u8], code: u8) -> u32
     requires { ⌜ code < 4 ⌝ }
     ensures { λ r. ⌜ r ≡ dataSum code (now (s .entry)) ⌝ }
@@ -233,14 +233,14 @@ fn sum_of(s: &[u8], code: u8) -> u32
     requires { ⌜ code < 4 ⌝ }
     ensures { λ r. ⌜ r ≡ dataSum code (now (s .entry)) ⌝ }
 {
-    if code == 1 {
-        return lanes8(s, s.len()) as u32;
-    }
-    if code == 2 {
-        return lanes16(s, s.len() / 2) as u32;
-    }
-    if code == 3 {
+    if 2 <= code {
+        if code == 2 {
+            return lanes16(s, s.len() / 2) as u32;
+        }
         return lanes32(s, s.len() / 4);
     }
-    0
+    if code == 0 {
+        return 0;
+    }
+    lanes8(s, s.len()) as u32
 }

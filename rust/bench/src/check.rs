@@ -5,6 +5,10 @@ use crate::library;
 use crate::same;
 use crate::sides::given;
 use ch11::raw;
+use std::sync::atomic::{AtomicU32, Ordering};
+
+/// The refusals that came up, a bit for each number.
+static SEEN: AtomicU32 = AtomicU32::new(0);
 
 /// The longest packet that is checked with each of its bytes spoilt.
 const SPOILT: usize = 2_048;
@@ -24,6 +28,19 @@ pub fn check(input: &Input) {
     if first <= SPOILT {
         check_spoilt(input.call, &bytes[..first]);
     }
+}
+
+/// Ends the run unless each of the refusals 1 to 17 came up in the checks before.
+pub fn all_refusals_seen() {
+    let seen = SEEN.load(Ordering::Relaxed);
+    for number in 1..=17 {
+        assert!(seen >> number & 1 == 1, "refusal {} came up", number);
+    }
+}
+
+/// Notes the refusal of an answer that both sides gave.
+fn note(refusal: &raw::Refusal) {
+    SEEN.fetch_or(1 << refusal.number, Ordering::Relaxed);
 }
 
 /// Every packet of a recording; one that is the same as the packet before it is only read.
@@ -92,6 +109,7 @@ fn compare_packet(bytes: &[u8], start: usize, end: usize) -> raw::Packet {
     library::read_packet(bytes, start, end, &mut packet);
     let answer = as_raw::packet(same::read_packet(bytes, start, end));
     assert_eq!(packet, answer, "window {} to {}", start, end);
+    note(&packet.refusal);
     packet
 }
 
@@ -100,6 +118,7 @@ fn compare_recording(bytes: &[u8], start: usize, end: usize) {
     library::read_recording(bytes, start, end, &mut recording);
     let answer = as_raw::recording(same::read_recording(bytes, start, end));
     assert_eq!(recording, answer, "window {} to {}", start, end);
+    note(&recording.refusal);
 }
 
 /// Lists with room for all messages, with more, and too short ones.
@@ -121,6 +140,7 @@ fn compare_list(bytes: &[u8], start: usize, end: usize, rooms: [usize; 2]) {
     let [mut same_starts, mut same_lengths] = lists();
     let count = same::list_messages(bytes, start, end, &mut same_starts, &mut same_lengths);
     assert_eq!(list, as_raw::list(count), "window {} to {}", start, end);
+    note(&list.refusal);
     assert_eq!(starts, same_starts);
     assert_eq!(lengths, same_lengths);
     for behind in [starts, lengths] {
@@ -142,6 +162,7 @@ fn compare_messages(bytes: &[u8], start: usize, end: usize) {
             "message {} of {} to {}",
             number, start, end
         );
+        note(&message.refusal);
     }
 }
 
@@ -183,6 +204,7 @@ fn compare_output(fields: &raw::Fields, body: &[u8], room: usize) -> raw::Writte
     let mut same_out = vec![UNTOUCHED; room];
     let answer = as_raw::written(same::write_packet(&given(fields), body, &mut same_out));
     assert_eq!(written, answer, "{:?}", fields);
+    note(&written.refusal);
     assert!(out == same_out, "the output for {:?}", fields);
     assert!(out[written.length as usize..]
         .iter()

@@ -67,6 +67,7 @@ fn table(arguments: &[String]) {
         check::check(&input);
         print_line(&input, &timing::measure(&input, rounds));
     }
+    check::all_refusals_seen();
 }
 
 fn compiler() -> String {

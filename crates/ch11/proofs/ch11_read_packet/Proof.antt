@@ -15,8 +15,9 @@ returns c =
 returns-2 : tie.Need-returns-2
 unfolding packetWords
 returns-2 c =
-    let read = sym (c .before .before .before .before .f .given .1) ∙ c .before .before .before .before .before .before .read-packet .ensures in
-    (ap (λ a. packetWords (told a)) read, refl)
+    let words = c .before in
+    let read = sym (words .before .before .f .given .1) ∙ words .before .before .before .before .read-packet .ensures in
+    (words .refused-words .ensures ∙ ap (λ a. packetWords (told a)) read, sym (ap (λ ws. getD ws 0 0) (words .refused-words .ensures)))
 
 pub ch11-read-packet-spec : {M : Type 1} → statement M
 ch11-read-packet-spec =
@@ -26,10 +27,7 @@ ch11-read-packet-spec =
     (λ c. search needs)
     (λ c κs. search needs)
     (λ c. search needs)
-    (λ c. search needs)
-    (λ c. search needs)
-    (λ c. search needs)
-    (λ c. search needs)
+    (λ c κs. search needs)
     (λ c. search needs)
     returns
     returns-2)

@@ -27,7 +27,7 @@ loop-again c =
     let l = first .before .before .before .loop in
     let a = first .before .before .before .before .before .before .args in
     let s = a .s .now in
-    let lane = a .n / 128 * 32 in
+    let lane = a .n / 256 * 64 in
     lanes-next 1 s _ lane _ (l .i) (l .acc) (getD s (l .i) 0) (getD s (l .i + lane) 0) (getD s (l .i + 2 * lane) 0) (getD s (l .i + 3 * lane) 0) (first .wrapping-add-u8 .result) (second .wrapping-add-u82 .result) (third .wrapping-add-u83 .result) _
     (l .inv) (omega arith) (unit s (l .i)) (unit s (l .i + lane)) (unit s (l .i + 2 * lane)) (unit s (l .i + 3 * lane))
     (first .wrapping-add-u8 .ensures) (second .wrapping-add-u82 .ensures) (third .wrapping-add-u83 .ensures) (c .wrapping-add-u84 .ensures)

@@ -23,26 +23,19 @@ pub struct Message {
     pub start: usize,
 }
 
-/// The number of messages of a body, 0 for a type that isn't opened, or the place of the fault in the body.
+/// The number of messages of a body of an opened type, or the place of the fault in the body.
 #[cfg_attr(feature = "inlined", inline(always))]
-pub fn check_body(body: &[u8], kind: u8, flags: u8) -> Result<usize, usize> {
-    if !is_opened(kind) {
-        return Ok(0);
-    }
+pub fn walk_body(body: &[u8], kind: u8, flags: u8) -> Result<usize, usize> {
     let shape = open_body(body, kind).ok_or(0_usize)?;
     count_blocks(body, shape, TimeRule::of_messages(flags))
 }
 
-/// The messages of a body that passed `check_body`; none in a type that isn't opened.
+/// The messages of a body that passed `walk_body`; none in a type that isn't opened.
 pub fn messages(body: &[u8], kind: u8) -> impl Iterator<Item = Message> + '_ {
-    let shape = if is_opened(kind) {
-        open_body(body, kind)
+    let (stamped, mut rest) = if is_opened(kind) {
+        (has_stamps(body, kind), &body[4..])
     } else {
-        None
-    };
-    let (stamped, mut rest) = match shape {
-        Some(shape) => (shape.stamped, &body[4..]),
-        None => (false, &body[..0]),
+        (false, &body[..0])
     };
     std::iter::from_fn(move || {
         let (head, bytes) = block_head(rest, stamped)?;
@@ -52,7 +45,13 @@ pub fn messages(body: &[u8], kind: u8) -> impl Iterator<Item = Message> + '_ {
     })
 }
 
-fn is_opened(kind: u8) -> bool {
+/// Whether the blocks of an opened body have time stamps.
+fn has_stamps(body: &[u8], kind: u8) -> bool {
+    kind == 0x30 || read32(body, 0) >> 31 != 0
+}
+
+/// Whether a type is opened.
+pub fn is_opened(kind: u8) -> bool {
     kind == 0x30 || kind == 0x50
 }
 
@@ -97,10 +96,10 @@ fn count_blocks(body: &[u8], shape: Shape, rule: TimeRule) -> Result<usize, usiz
     let most = shape.count.unwrap_or(usize::MAX);
     let mut rest = &body[4..];
     let mut blocks = 0;
-    loop {
+    while blocks < most {
         rest = behind_block(rest, shape.stamped, rule).ok_or(body.len() - rest.len())?;
         blocks += 1;
-        if rest.is_empty() || blocks == most {
+        if rest.is_empty() {
             break;
         }
     }

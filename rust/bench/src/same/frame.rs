@@ -4,27 +4,40 @@ use super::units::{all_zero, header_sum, read16, read32, read64, sum16, sum32, s
 
 pub const SYNC: [u8; 2] = [0x25, 0xEB];
 
-/// The flags and type of a packet, its length, and where body, filler and sum begin, counted from the packet's first byte.
+/// Where body, filler and sum begin, counted from the packet's first byte, and its length.
 #[derive(Clone, Copy)]
 pub struct Layout {
-    pub flags: u8,
-    pub kind: u8,
     pub body: usize,
     pub filler: usize,
     pub sum: usize,
     pub length: usize,
 }
 
-/// Where the parts stand, or the first of 2 to 14 that applies.
-pub fn check_frame(window: &[u8]) -> Result<Layout, u8> {
-    let head = check_head(window)?;
-    let layout = check_header_values(head)?;
-    let packet = window.get(..layout.length).ok_or(10)?;
-    if has_secondary(layout.flags) {
-        check_secondary(&packet[24..36], layout.flags)?;
+/// The layout that a header says.
+pub fn measure(head: &[u8]) -> Layout {
+    let flags = head[14];
+    let length = read32(head, 4) as usize;
+    let body = body_at(flags);
+    Layout {
+        body,
+        filler: body + read32(head, 8) as usize,
+        sum: length - sum_width(flags),
+        length,
     }
-    check_trailer(packet, &layout)?;
-    Ok(layout)
+}
+
+/// The first of 2 to 14 that applies.
+#[cfg_attr(feature = "inlined", inline(always))]
+pub fn check_frame(window: &[u8]) -> Result<(), u8> {
+    let head = check_head(window)?;
+    check_header_values(head)?;
+    let layout = measure(head);
+    let packet = window.get(..layout.length).ok_or(10)?;
+    let flags = head[14];
+    if has_secondary(flags) {
+        check_secondary(&packet[24..36], flags)?;
+    }
+    check_trailer(packet, flags, &layout)
 }
 
 /// 2 to 4, or the primary header.
@@ -39,26 +52,15 @@ fn check_head(window: &[u8]) -> Result<&[u8; 24], u8> {
     Ok(head)
 }
 
-/// 5 to 9, or what the header says of the packet's parts.
-fn check_header_values(head: &[u8; 24]) -> Result<Layout, u8> {
-    let (flags, kind) = (head[14], head[15]);
-    let (length, data_length) = (read32(head, 4), read32(head, 8));
+/// 5 to 9.
+fn check_header_values(head: &[u8; 24]) -> Result<(), u8> {
     check_values(&Values {
         channel: read16(head, 2),
         version: head[12],
-        flags,
-        kind,
-        length: u64::from(length),
-        data_length: u64::from(data_length),
-    })?;
-    let body = body_at(flags);
-    Ok(Layout {
-        flags,
-        kind,
-        body,
-        filler: body + data_length as usize,
-        sum: length as usize - sum_width(flags),
-        length: length as usize,
+        flags: head[14],
+        kind: head[15],
+        length: u64::from(read32(head, 4)),
+        data_length: u64::from(read32(head, 8)),
     })
 }
 
@@ -74,9 +76,9 @@ fn check_secondary(secondary: &[u8], flags: u8) -> Result<(), u8> {
 }
 
 /// 13 and 14.
-fn check_trailer(packet: &[u8], layout: &Layout) -> Result<(), u8> {
+fn check_trailer(packet: &[u8], flags: u8, layout: &Layout) -> Result<(), u8> {
     let summed = &packet[layout.body..layout.sum];
-    if data_sum(summed, layout.flags) != stored_sum(packet, layout.flags) {
+    if data_sum(summed, flags) != stored_sum(packet, flags) {
         return Err(13);
     }
     if !all_zero(&packet[layout.filler..layout.sum]) {

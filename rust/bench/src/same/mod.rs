@@ -7,10 +7,10 @@ mod rules;
 pub mod units;
 mod write;
 
-use body::{check_body, messages};
-use frame::{check_frame, stored_sum, Layout};
+use body::{is_opened, messages, walk_body};
+use frame::{check_frame, measure, stored_sum};
 use rules::has_secondary;
-use units::{read16, read48, read64};
+use units::{read16, read32, read48, read64};
 pub use write::{write_packet, Given};
 
 /// A refusal's number, its place counted from the buffer's first byte, and the room needed (16; otherwise 0).
@@ -75,8 +75,9 @@ pub struct Recording {
 #[inline(never)]
 pub fn read_packet(buffer: &[u8], start: usize, end: usize) -> Result<Packet, Refusal> {
     let window = window_in(buffer, start, end)?;
-    let layout = check_packet(window, start)?;
-    Ok(packet_in(window, start, &layout))
+    check_frame(window).map_err(|number| refuse(number, start))?;
+    check_messages(window, start)?;
+    Ok(packet_in(window, start))
 }
 
 /// Reads the packets of a window, each at the end of the one before; the first that is refused ends the reading.
@@ -90,11 +91,11 @@ pub fn read_recording(buffer: &[u8], start: usize, end: usize) -> Recording {
             if rest.is_empty() {
                 break None;
             }
-            match check_packet(rest, reached) {
-                Ok(layout) => {
+            match pass_packet(rest, reached) {
+                Ok(length) => {
                     accepted += 1;
-                    reached += layout.length;
-                    rest = &rest[layout.length..];
+                    reached += length;
+                    rest = &rest[length..];
                 }
                 Err(refusal) => break Some(refusal),
             }
@@ -118,7 +119,8 @@ pub fn list_messages(
     lengths: &mut [u32],
 ) -> Result<usize, Refusal> {
     let window = window_in(buffer, start, end)?;
-    let (layout, count) = check_and_count(window, start)?;
+    check_frame(window).map_err(|number| refuse(number, start))?;
+    let count = check_messages(window, start)?;
     if starts.len().min(lengths.len()) < count {
         return Err(Refusal {
             number: 16,
@@ -126,9 +128,10 @@ pub fn list_messages(
             room: count,
         });
     }
+    let layout = measure(window);
     let body = &window[layout.body..layout.filler];
     let entries = starts.iter_mut().zip(lengths);
-    for (message, (start, length)) in messages(body, layout.kind).zip(entries) {
+    for (message, (start, length)) in messages(body, window[15]).zip(entries) {
         *start = (layout.body + message.start) as u32;
         *length = message.head.length as u32;
     }
@@ -139,13 +142,13 @@ pub fn list_messages(
 #[inline(never)]
 pub fn message(buffer: &[u8], start: usize, end: usize, number: usize) -> Result<Message, Refusal> {
     let window = window_in(buffer, start, end)?;
-    let layout = check_packet(window, start)?;
+    check_frame(window).map_err(|number| refuse(number, start))?;
+    check_messages(window, start)?;
+    let layout = measure(window);
     let body = &window[layout.body..layout.filler];
-    let found = messages(body, layout.kind).nth(number).ok_or(Refusal {
-        number: 17,
-        place: start,
-        room: 0,
-    })?;
+    let found = messages(body, window[15])
+        .nth(number)
+        .ok_or(refuse(17, start))?;
     Ok(Message {
         time: found.head.time,
         id: found.head.id,
@@ -156,36 +159,39 @@ pub fn message(buffer: &[u8], start: usize, end: usize, number: usize) -> Result
 
 /// The bytes of a window, or 1 if it is outside the buffer.
 fn window_in(buffer: &[u8], start: usize, end: usize) -> Result<&[u8], Refusal> {
-    buffer.get(start..end).ok_or(Refusal {
-        number: 1,
-        place: start,
-        room: 0,
-    })
+    buffer.get(start..end).ok_or_else(|| refuse(1, start))
 }
 
-/// The layout of the packet at the window's first byte, or the first of 2 to 15 that applies.
-#[cfg_attr(feature = "inlined", inline(always))]
-fn check_packet(window: &[u8], start: usize) -> Result<Layout, Refusal> {
-    check_and_count(window, start).map(|(layout, _)| layout)
+/// The length of the packet at the window's first byte, or the first of 2 to 15 that applies.
+fn pass_packet(window: &[u8], start: usize) -> Result<usize, Refusal> {
+    check_frame(window).map_err(|number| refuse(number, start))?;
+    check_messages(window, start)?;
+    Ok(read32(window, 4) as usize)
 }
 
-/// The layout and the number of messages, or the first of 2 to 15 that applies.
+/// The number of messages of a packet whose frame is sound, or 15. A type that isn't opened leaves at once.
 #[cfg_attr(feature = "inlined", inline(always))]
-fn check_and_count(window: &[u8], start: usize) -> Result<(Layout, usize), Refusal> {
-    let refuse = |number, place| Refusal {
+fn check_messages(window: &[u8], start: usize) -> Result<usize, Refusal> {
+    let kind = window[15];
+    if !is_opened(kind) {
+        return Ok(0);
+    }
+    let layout = measure(window);
+    let body = &window[layout.body..layout.filler];
+    walk_body(body, kind, window[14]).map_err(|place| refuse(15, start + layout.body + place))
+}
+
+fn refuse(number: u8, place: usize) -> Refusal {
+    Refusal {
         number,
         place,
         room: 0,
-    };
-    let layout = check_frame(window).map_err(|number| refuse(number, start))?;
-    let body = &window[layout.body..layout.filler];
-    let count = check_body(body, layout.kind, layout.flags)
-        .map_err(|place| refuse(15, start + layout.body + place))?;
-    Ok((layout, count))
+    }
 }
 
 /// The record of a packet that passed all tests.
-fn packet_in(window: &[u8], start: usize, layout: &Layout) -> Packet {
+fn packet_in(window: &[u8], start: usize) -> Packet {
+    let layout = measure(window);
     let part = |from: usize, to: usize| Part {
         at: start + from,
         length: to - from,
@@ -195,7 +201,7 @@ fn packet_in(window: &[u8], start: usize, layout: &Layout) -> Packet {
         length: layout.length as u32,
         data_length: (layout.filler - layout.body) as u32,
         header_sum: read16(window, 22),
-        data_sum: stored_sum(&window[..layout.length], layout.flags),
+        data_sum: stored_sum(&window[..layout.length], window[14]),
         header: part(0, 24),
         secondary: part(24, layout.body),
         body: part(layout.body, layout.filler),

@@ -113,22 +113,19 @@ const fn is_defined(kind: u8) -> bool {
     )
 }
 
-/// The length rules; the parts are added in 64 bits.
+/// The length rules.
 fn lengths_agree(values: &Values) -> bool {
-    let limit = if values.kind == 0x01 {
-        134_217_728
-    } else {
-        524_288
-    };
-    let length = values.length;
-    let parts = unfilled_length(values.flags, values.data_length);
-    length % 4 == 0
-        && length <= limit
+    values.length == length_for(values.flags, values.data_length)
+        && within_limit(values.kind, values.length)
         && values.data_length > 0
-        && (parts..=parts + 3).contains(&length)
 }
 
-/// P's parts without the filler.
+/// Whether P is at most what it may be.
+fn within_limit(kind: u8, length: u64) -> bool {
+    length <= 524_288 || (kind == 0x01 && length <= 134_217_728)
+}
+
+/// P's parts without the filler, in 64 bits.
 fn unfilled_length(flags: u8, data_length: u64) -> u64 {
     body_at(flags) as u64 + data_length + sum_width(flags) as u64
 }

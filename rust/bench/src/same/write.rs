@@ -1,5 +1,5 @@
 //! The writer.
-use super::body::check_body;
+use super::body::{is_opened, walk_body};
 use super::frame::{data_sum, SYNC};
 use super::rules::{body_at, check_values, has_secondary, length_for, sum_width, TimeRule, Values};
 use super::units::{header_sum, put};
@@ -28,7 +28,9 @@ pub fn write_packet(given: &Given, body: &[u8], out: &mut [u8]) -> Result<usize,
     };
     let fields = in_range(given).ok_or_else(|| refuse(17))?;
     let length = check_fields(&fields, body.len() as u64).map_err(refuse)?;
-    check_body(body, fields.kind, fields.flags).map_err(|_| refuse(15))?;
+    if is_opened(fields.kind) {
+        walk_body(body, fields.kind, fields.flags).map_err(|_| refuse(15))?;
+    }
     let packet = out.get_mut(..length).ok_or(Refusal {
         number: 16,
         place: 0,

@@ -1,7 +1,8 @@
 use Rattle.body.proofs.Walking.{open-long}
 use Rattle.body.proofs.Whole.{open-not-carried}
 use Rattle.body.proofs.Exactly.{check-shaped}
-use Rattle.body.specs.Answers.{checkBody, walked}
+use Rattle.body.specs.Answers.{checkBody}
+use Rattle.body.specs.Inner.{walked}
 use mathlib.Core.Path.{sym, ap, _∙_}
 use borrow.Author.Needs.{needs}
 use Rattle.body.proofs.walk.walk_whole.Statement.{statement}

@@ -9,7 +9,7 @@ use Rattle.packet.proofs.framed.pass_framed.Statement.{statement}
 use Rattle.packet.proofs.framed.pass_framed.Tie as tie
 
 returns : tie.Need-returns
-returns c = pass-carried _ _ _ (c .before .before .before .read32 .ensures) (sym (c .before .opens-kind .ensures) ∙ not-true _ (c .if1 .taken))
+returns c = pass-carried _ _ _ (c .read32 .ensures) (sym (c .before .before .opens-kind .ensures) ∙ not-true _ (c .before .if1 .taken))
 
 walk-body-requires : tie.Need-walk-body-requires
 walk-body-requires c κs =
@@ -22,7 +22,7 @@ add-fault-2 c =
     let walk = c .before .before .before in
     let at-measure = walk .before .before .before .before in
     let else1 = at-measure .before in
-    let start = else1 .before .before .before .before .before in
+    let start = else1 .before .before .before .before in
     let opened = sym (else1 .before .opens-kind .ensures) ∙ not-false _ (else1 .if1 .left) in
     let faulty = walked-faulty _ _ _ _ opened (walk .walk-body .ensures) (c .before .if2 .taken) in
     let reach = fault-reach _ _ (at-measure .measure .ensures) _ (walk .before .message-rule .ensures) (start .pre .0) (fault (walk .walk-body .result .place)) faulty in
@@ -40,20 +40,19 @@ returns-2 c =
 
 returns-3 : tie.Need-returns-3
 returns-3 c =
-    let walk = c .before .before in
+    let walk = c .before .before .before in
     let at-measure = walk .before .before .before .before in
     let else1 = at-measure .before in
     let opened = sym (else1 .before .opens-kind .ensures) ∙ not-false _ (else1 .if1 .left) in
-    let counted = walked-counted _ _ _ _ opened (walk .walk-body .ensures) (c .if2 .left) in
-    pass-counted _ _ _ _ (sym (checked-is _ _ (at-measure .measure .ensures) _ (walk .before .message-rule .ensures)) ∙ counted)
-    (else1 .before .before .before .read32 .ensures)
+    let counted = walked-counted _ _ _ _ opened (walk .walk-body .ensures) (c .before .if2 .left) in
+    pass-counted _ _ _ _ (sym (checked-is _ _ (at-measure .measure .ensures) _ (walk .before .message-rule .ensures)) ∙ counted) (c .read322 .ensures)
 
 pub pass-framed-spec : {M : Type 1} → statement M
 pass-framed-spec =
     tie.close
     (tie.spec
-    (λ c κs. search needs)
     (λ c. search needs)
+    (λ c κs. search needs)
     (λ c κs. search needs)
     returns
     (λ c κs. search needs)
@@ -67,4 +66,5 @@ pass-framed-spec =
     add-fault-2
     (λ c κs. search needs)
     returns-2
+    (λ c κs. search needs)
     returns-3)

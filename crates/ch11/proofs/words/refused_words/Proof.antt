@@ -1,0 +1,12 @@
+use mathlib.Core.Path.{refl}
+use borrow.Author.Needs.{needs}
+use Rattle.ch11.specs.Words.{packetWords}
+use Rattle.ch11.proofs.words.refused_words.Statement.{statement}
+use Rattle.ch11.proofs.words.refused_words.Tie as tie
+
+returns : tie.Need-returns
+unfolding packetWords
+returns c = refl
+
+pub refused-words-spec : {M : Type 1} → statement M
+refused-words-spec = tie.close (tie.spec (λ c. search needs) (λ c. search needs) (λ c. search needs) (λ c. search needs) returns)
