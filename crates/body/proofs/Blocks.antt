@@ -1,4 +1,4 @@
--- Laws of blocks and their bytes, and of time 0. Assumes nothing.
+-- Laws of blocks and their bytes, and of time 0.
 use mathlib.Core.Path.{_≡_, refl}
 use mathlib.Core.List.{List, [], _∷_, _++_, append-assoc, append-nil}
 use mathlib.Core.Bool.{Bool, true}

@@ -1,4 +1,4 @@
--- How a walk ends; places lie in the body or at its end: a fault's, and a message's bytes. Assumes nothing.
+-- How a walk ends; places lie in the body or at its end: a fault's, and a message's bytes.
 use mathlib.Core.Path.{_≡_, refl, sym, ap, _∙_}
 use mathlib.Core.List.{List}
 use mathlib.Core.Bool.{Bool, true, false, not}
@@ -25,7 +25,7 @@ use Rattle.body.specs.declared.Block.the-variants.{Found, Broken}
 use Rattle.body.specs.declared.Checked.{Checked}
 use Rattle.body.specs.declared.Checked.the-variants.{Counted, Faulty}
 use Rattle.body.proofs.Walking.{Walking, walking-first, walking-next, walk-stop, walk-broken, walk-found, open-long}
-use Rattle.body.proofs.Reading.{Reading, reading-first, reading-ahead, message-shaped}
+use Rattle.body.proofs.Reading.{ReadingBody, reading-first, reading-ahead, message-shaped}
 
 -- ---- faults
 
@@ -109,7 +109,7 @@ faulty-place kind rule bs r e = faulty-is kind rule bs r e .1
 
 -- ---- messages
 
-ahead-fits : (sh : Shape) (bs : List ℕ) (n d j at : ℕ) → Reading sh bs n j at → j + d < n → blockEnd (messageOf sh bs (j + d)) ≤ length bs
+ahead-fits : (sh : Shape) (bs : List ℕ) (n d j at : ℕ) → ReadingBody sh bs n j at → j + d < n → blockEnd (messageOf sh bs (j + d)) ≤ length bs
 ahead-fits sh bs n zero j at now more =
     let a = reading-ahead sh bs n j at now (omega arith) (headAt (sh .stamped) bs at) refl in
     rw (add-zero, ← a .message) (a .fits)

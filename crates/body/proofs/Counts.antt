@@ -1,4 +1,4 @@
--- What the walk's plain numbers say of a body, and the shape of a body that has messages. Assumes nothing.
+-- What the walk's plain numbers say of a body, and the shape of a body that has messages.
 use mathlib.Core.Path.{_≡_, refl, sym, ap, _∙_}
 use mathlib.Core.List.{List}
 use mathlib.Core.Bool.{Bool, true, false}
@@ -8,7 +8,7 @@ use native.Mathlib.Omega.{arith}
 use lib.ListN.{length}
 use Rattle.body.specs.Walk.{fault, opens, openBody, stampLength, headAt, walk}
 use Rattle.body.specs.Answers.{checkOpened, checkBody, messageIn}
-use Rattle.body.specs.Inner.{stampsIn, walked}
+use Rattle.body.specs.inner.Walks.{stampsIn, walked}
 use Rattle.body.specs.declared.TimeRule.{TimeRule}
 use Rattle.body.specs.declared.Shape.{Shape}
 use Rattle.body.specs.declared.Message.{Message}
@@ -18,7 +18,7 @@ use Rattle.body.specs.declared.Checked.{Checked}
 use Rattle.body.specs.declared.Checked.the-variants.{Counted, Faulty}
 use Rattle.body.specs.declared.Walked.{Walked}
 use Rattle.body.proofs.Walking.{open-long}
-use Rattle.body.proofs.Reading.{Reading, reading-first, ending-counted, Ahead, reading-fits, reading-ahead, message-shaped}
+use Rattle.body.proofs.Reading.{ReadingBody, reading-first, ending-counted, Ahead, reading-fits, reading-ahead, message-shaped}
 use Rattle.body.proofs.Whole.{stop-some, known, open-not-carried}
 use Rattle.body.proofs.Bounds.{walk-end, faulty-is}
 
@@ -100,7 +100,7 @@ has-messages kind rule bs n e some = go (openBody kind rule bs) refl e
 
 -- a loop stands at `at` after k of n messages; its code does not hold the rule, so that this is said of every rule under which there are n
 abbrev pub ReadingIn : ℕ → List ℕ → ℕ → ℕ → ℕ → Type 0
-ReadingIn kind bs n k at = (rule : TimeRule) → checkBody kind rule bs ≡ Counted n → Reading (shapeOf kind rule bs) bs n k at
+ReadingIn kind bs n k at = (rule : TimeRule) → checkBody kind rule bs ≡ Counted n → ReadingBody (shapeOf kind rule bs) bs n k at
 
 -- the loops start behind the channel word
 pub in-first : (kind : ℕ) (bs : List ℕ) (n : ℕ) → 0 < n → ReadingIn kind bs n 0 4

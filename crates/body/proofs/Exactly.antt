@@ -1,4 +1,4 @@
--- An accepted body is exactly its channel word followed by the blocks of the messages reported. Assumes nothing.
+-- An accepted body is exactly its channel word followed by the blocks of the messages reported.
 use mathlib.Core.Path.{_≡_, refl, ap, _∙_, subst}
 use mathlib.Core.List.{List}
 use mathlib.Core.Bool.{true}

@@ -1,4 +1,4 @@
--- A body is refused exactly where it is at fault, and it is at fault at one place. Assumes nothing.
+-- A body is refused exactly where it is at fault, and it is at fault at one place.
 use mathlib.Core.Path.{_≡_, refl, sym, ap, _∙_, subst}
 use mathlib.Core.List.{List, [], _∷_, _++_, append-assoc}
 use mathlib.Core.Bool.{Bool, true, false, _&&_, and-false}

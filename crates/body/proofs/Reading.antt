@@ -1,4 +1,4 @@
--- Laws for the loops over a body that is known to have n messages, and for lists that are filled from the front. Assumes nothing.
+-- Laws for the loops over a body that is known to have n messages, and for lists that are filled from the front.
 use mathlib.Core.Path.{_≡_, refl, sym, ap, _∙_}
 use mathlib.Core.List.{List, append-assoc}
 use mathlib.Core.Bool.{Bool, true, false}
@@ -24,15 +24,15 @@ use Rattle.body.specs.declared.Checked.{Checked}
 use Rattle.body.specs.declared.Checked.the-variants.{Counted, Faulty}
 use Rattle.body.specs.declared.Picked.the-variants.{One, Missing}
 use Rattle.body.specs.declared.Listed.the-variants.{Count, Unlisted, NoRoom}
-use Rattle.body.proofs.Walking.{stands, Walking, walking-first, walking-next, walk-stop, walk-broken, walk-found}
+use Rattle.body.proofs.Walking.{found-stands, Walking, walking-first, walking-next, walk-stop, walk-broken, walk-found}
 
 -- ---- a body that has n messages
 
 -- the walk stands at `at` after k blocks of a body that has n
-abbrev pub Reading : Shape → List ℕ → ℕ → ℕ → ℕ → Type 0
-Reading sh bs n k at = Walking sh bs k at × (walkFrom sh bs (length bs + 1 - k) k ≡ Counted n)
+abbrev pub ReadingBody : Shape → List ℕ → ℕ → ℕ → ℕ → Type 0
+ReadingBody sh bs n k at = Walking sh bs k at × (walkFrom sh bs (length bs + 1 - k) k ≡ Counted n)
 
-pub reading-first : (sh : Shape) (bs : List ℕ) (n : ℕ) → 4 ≤ length bs → walk sh bs ≡ Counted n → Reading sh bs n 0 4
+pub reading-first : (sh : Shape) (bs : List ℕ) (n : ℕ) → 4 ≤ length bs → walk sh bs ≡ Counted n → ReadingBody sh bs n 0 4
 unfolding walk
 reading-first sh bs n h e = let z : length bs + 1 - 0 ≡ length bs + 1 = omega arith in (walking-first sh bs h, rw z e)
 
@@ -45,7 +45,7 @@ ending-counted len k at n e = go (eqb at len) refl e
     go true t e = (cc, eqb-true at len t)
     go false t e = let z : _≡_ {A = ℕ} 0 1 = cc in absurd (omega arith)
 
-module _ (sh : Shape) (bs : List ℕ) (n k at : ℕ) (now : Reading sh bs n k at) where
+module _ (sh : Shape) (bs : List ℕ) (n k at : ℕ) (now : ReadingBody sh bs n k at) where
   -- where the walk stops, all n are read and the body ends
   pub reading-end : stopAt sh (length bs) k at ≡ true → (k ≡ n) × (at ≡ length bs)
   reading-end e = ending-counted (length bs) k at n (sym (walk-stop sh bs (length bs + 1 - k) k at (now .0 .0) (omega arith) e) ∙ now .1)
@@ -56,7 +56,7 @@ module _ (sh : Shape) (bs : List ℕ) (n k at : ℕ) (now : Reading sh bs n k at
       let z : _≡_ {A = ℕ} 0 1 = cc (walk-broken sh bs (length bs + 1 - k) k at (now .0 .0) (omega arith) r s e, now .1) in
       omega arith
 
-  pub reading-step : (m : Message) (next : ℕ) → stopAt sh (length bs) k at ≡ false → blockAt sh bs at ≡ Found m next → Reading sh bs n (k + 1) next
+  pub reading-step : (m : Message) (next : ℕ) → stopAt sh (length bs) k at ≡ false → blockAt sh bs at ≡ Found m next → ReadingBody sh bs n (k + 1) next
   reading-step m next s e =
       let f : length bs + 1 - k - 1 ≡ length bs + 1 - (k + 1) = omega arith in
       (walking-next sh bs k at m next (now .0) e, rw f at (sym (walk-found sh bs _ k at (now .0 .0) (omega arith) m next s e) ∙ now .1))
@@ -72,7 +72,7 @@ module _ (sh : Shape) (bs : List ℕ) (n k at : ℕ) (now : Reading sh bs n k at
   pub reading-whole : k < n → (r : Refusal) → blockAt sh bs at ≡ Broken r → ⊥
   reading-whole more r e = reading-block r (reading-on more) e
 
-  pub reading-next : k < n → (m : Message) (next : ℕ) → blockAt sh bs at ≡ Found m next → Reading sh bs n (k + 1) next
+  pub reading-next : k < n → (m : Message) (next : ℕ) → blockAt sh bs at ≡ Found m next → ReadingBody sh bs n (k + 1) next
   reading-next more m next e = reading-step m next (reading-on more) e
 
 -- the block where the walk stands is the k-th message
@@ -84,12 +84,12 @@ walking-message sh bs k at m next w e = rw (← w .0, e)
 -- while messages are left, what the head at `at` says is the k-th message, and the next block stands behind it
 pub record Ahead (sh : Shape) (bs : List ℕ) (n k at : ℕ) (m : Message) : Type 0 where
   pub message : m ≡ messageOf sh bs k
-  pub next : Reading sh bs n (k + 1) (blockEnd m)
+  pub next : ReadingBody sh bs n (k + 1) (blockEnd m)
   pub fits : blockEnd m ≤ length bs
   pub some : 0 < m .length
   pub short : m .length < 2 ^ 16
 
-module _ (sh : Shape) (bs : List ℕ) (n k at : ℕ) (now : Reading sh bs n k at) (more : k < n) where
+module _ (sh : Shape) (bs : List ℕ) (n k at : ℕ) (now : ReadingBody sh bs n k at) (more : k < n) where
   found-head : (m : Message) × (next : ℕ) × (blockAt sh bs at ≡ Found m next)
   found-head = go (blockAt sh bs at) refl
     where
@@ -98,13 +98,13 @@ module _ (sh : Shape) (bs : List ℕ) (n k at : ℕ) (now : Reading sh bs n k at
       go (Broken r) e = absurd (reading-whole sh bs n k at now more r e)
 
   pub reading-fits : at + stampLength (sh .stamped) + 4 ≤ length bs
-  reading-fits = let f = found-head in stands sh bs at (f .0) (f .1) (f .2) .head
+  reading-fits = let f = found-head in found-stands sh bs at (f .0) (f .1) (f .2) .head
 
   pub reading-ahead : (m : Message) → m ≡ headAt (sh .stamped) bs at → Ahead sh bs n k at m
   unfolding headAt
   reading-ahead m is =
       let f = found-head in
-      let s = stands sh bs at (f .0) (f .1) (f .2) in
+      let s = found-stands sh bs at (f .0) (f .1) (f .2) in
       let same : f .0 ≡ m = s .says ∙ sym is in
       record {
         message = rw (← same) (walking-message sh bs k at (f .0) (f .1) (now .0) (f .2));

@@ -1,4 +1,4 @@
--- A step of the walk by the place that it leads to, 0 where the block is at fault. Assumes nothing.
+-- A step of the walk by the place that it leads to, 0 where the block is at fault.
 use mathlib.Core.Path.{_≡_, refl, sym, ap, _∙_}
 use mathlib.Core.List.{List}
 use mathlib.Core.Bool.{Bool, true, false}
@@ -8,7 +8,7 @@ use lib.ListN.{length}
 use lib.Dec.{leb}
 use borrow.Author.Tests.{lt-ltb, lt-leb, le-ltb}
 use Rattle.body.specs.Walk.{fault, stampLength, headAt, judge, blockAt, stopAt, walk}
-use Rattle.body.specs.Inner.{past}
+use Rattle.body.specs.inner.Walks.{past}
 use Rattle.body.specs.declared.Shape.{Shape}
 use Rattle.body.specs.declared.Message.{Message}
 use Rattle.body.specs.declared.Block.{Block}

@@ -1,4 +1,4 @@
--- A time rule as a mask and a limit is the rule. Assumes nothing.
+-- A time rule as a mask and a limit is the rule.
 use mathlib.Core.Path.{_≡_, refl, sym, ap, _∙_}
 use mathlib.Core.Bool.{true, false}
 use Prim.Native.Nat.{ℕ, zero, suc, _%_, _^_, _≤_, _<_}
@@ -8,7 +8,7 @@ use lib.Dec.{ltb, eqb}
 use lib.Bits.{bitAnd, and-mask, and-zero-r}
 use borrow.Author.Tests.{lt-ltb, le-ltb, ne-eqb}
 use Rattle.body.specs.Times.{timeOk}
-use Rattle.body.specs.Inner.{maskOf, limitOf}
+use Rattle.body.specs.inner.Walks.{maskOf, limitOf}
 use Rattle.body.specs.declared.TimeRule.{TimeRule}
 use Rattle.body.specs.declared.TimeRule.the-variants.{Counter, Chapter4, Ieee1588, Extended}
 

@@ -1,4 +1,4 @@
--- Laws of a block and of the walk, on plain values. Assumes nothing.
+-- Laws of a block and of the walk, on plain values.
 use mathlib.Core.Path.{_≡_, refl, sym, ap, _∙_}
 use mathlib.Core.List.{List}
 use mathlib.Core.Bool.{Bool, true, false, not}
@@ -38,9 +38,9 @@ pub record Stands (sh : Shape) (bs : List ℕ) (at : ℕ) (m : Message) (next : 
   pub some : 0 < m .length
   pub pad : zeros (part bs (m .start + m .length) (m .length % 2)) ≡ true
 
-pub stands : (sh : Shape) (bs : List ℕ) (at : ℕ) (m : Message) (next : ℕ) → blockAt sh bs at ≡ Found m next → Stands sh bs at m next
+pub found-stands : (sh : Shape) (bs : List ℕ) (at : ℕ) (m : Message) (next : ℕ) → blockAt sh bs at ≡ Found m next → Stands sh bs at m next
 unfolding blockAt judge
-stands sh bs at m next e =
+found-stands sh bs at m next e =
     let h = headAt (sh .stamped) bs at in
     let no : Block = Broken (fault at) in
     let x₅ : Block = Found h (blockEnd h) in
@@ -117,7 +117,7 @@ module _ (rule : TimeRule) (bs : List ℕ) (at : ℕ) (m : Message) (next : ℕ)
 pub found-next : (sh : Shape) (bs : List ℕ) (at : ℕ) (m : Message) (next : ℕ) → blockAt sh bs at ≡ Found m next → (at < next) × (next ≤ length bs)
 unfolding headAt
 found-next sh bs at m next e =
-    let s = stands sh bs at m next e in
+    let s = found-stands sh bs at m next e in
     (omega (arith, s .next-is, ap (λ (x : Message). x .start) (s .says)), s .fits)
 
 -- the walk stands at `at` after k blocks

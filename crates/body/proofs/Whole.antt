@@ -1,4 +1,4 @@
--- The walk and the blocks: what is laid out in blocks is walked, and what is walked is laid out in blocks. Assumes nothing.
+-- The walk and the blocks: what is laid out in blocks is walked, and what is walked is laid out in blocks.
 use mathlib.Core.Path.{_≡_, refl, sym, ap, _∙_, subst}
 use mathlib.Core.List.{List, [], _∷_, _++_, append-assoc, append-nil}
 use mathlib.Core.Bool.{Bool, true, false, not, _&&_, _||_, and-false}
@@ -27,8 +27,8 @@ use Rattle.body.specs.declared.Block.{Block}
 use Rattle.body.specs.declared.Block.the-variants.{Found, Broken}
 use Rattle.body.specs.declared.Checked.the-variants.{Counted}
 use Rattle.body.proofs.Blocks.{length-blockBytes, blocks-snoc, fit-snoc}
-use Rattle.body.proofs.Walking.{Stands, stands, stands-found, found-next, Walking, Counting, counting-stop, counting-next, ending-exact}
-use Rattle.body.proofs.Reading.{Reading, reading-end, reading-block, reading-step, walking-message, length-tab}
+use Rattle.body.proofs.Walking.{Stands, found-stands, stands-found, found-next, Walking, Counting, counting-stop, counting-next, ending-exact}
+use Rattle.body.proofs.Reading.{ReadingBody, reading-end, reading-block, reading-step, walking-message, length-tab}
 
 -- the k-th block of a body of this shape
 abbrev pub entryOn : Shape → List ℕ → ℕ → Entry
@@ -154,7 +154,7 @@ module _ (sh : Shape) (bs : List ℕ) (at : ℕ) (m : Message) (next : ℕ) (raw
   pub found-is : take next bs ≡ take at bs ++ blockBytes (sh .stamped) (entryAt bs m)
   unfolding headAt blockBytes
   found-is =
-      let s = stands sh bs at m next found in
+      let s = found-stands sh bs at m next found in
       let st = stampLength (sh .stamped) in
       let n = m .length in
       let t : m .time ≡ field bs at st = ap (λ (x : Message). x .time) (s .says) in
@@ -179,7 +179,7 @@ module _ (sh : Shape) (bs : List ℕ) (at : ℕ) (m : Message) (next : ℕ) (raw
   pub found-fits : Fits (sh .stamped) (sh .rule) (entryAt bs m)
   unfolding headAt
   found-fits =
-      let s = stands sh bs at m next found in
+      let s = found-stands sh bs at m next found in
       let st = stampLength (sh .stamped) in
       let t : m .time ≡ field bs at st = ap (λ (x : Message). x .time) (s .says) in
       let i : m .id ≡ field bs (at + st) 4 = ap (λ (x : Message). x .id) (s .says) in
@@ -232,14 +232,14 @@ stop-some sh len k at s least = go (sh .counted) refl s
         ((λ q. let z : _≡_ {A = ℕ} 0 1 = cc in absurd (omega arith)), ltb-true 0 k (and-true (ltb 0 k) (leb len at) s .0))
 
 -- a body of this shape that holds exactly these blocks
-pub record Holds (sh : Shape) (bs : List ℕ) (es : List Entry) : Type 0 where
+pub record HoldsBlocks (sh : Shape) (bs : List ℕ) (es : List Entry) : Type 0 where
   pub counted : sh .counted ≡ true → length es ≡ sh .count
   pub some : 0 < length es
   pub is : bs ≡ take 4 bs ++ blocksBytes (sh .stamped) es
   pub fit : AllFit (sh .stamped) (sh .rule) es
 
 module _ (sh : Shape) (bs : List ℕ) (n : ℕ) (raw : Bytes bs) (least : sh .counted ≡ true → 0 < sh .count) where
-  holds-last : (k at : ℕ) → Reading sh bs n k at → Come sh bs k at → stopAt sh (length bs) k at ≡ true → Holds sh bs (tab n (entryOn sh bs))
+  holds-last : (k at : ℕ) → ReadingBody sh bs n k at → Come sh bs k at → stopAt sh (length bs) k at ≡ true → HoldsBlocks sh bs (tab n (entryOn sh bs))
   holds-last k at now come s =
       let p = reading-end sh bs n k at now s in
       let e : k ≡ n = p .0 in
@@ -252,15 +252,15 @@ module _ (sh : Shape) (bs : List ℕ) (n : ℕ) (raw : Bytes bs) (least : sh .co
         fit = rw (← e) (come .fit);
       }
 
-  pub holds-from : (fuel k at : ℕ) → length bs < fuel + at → Reading sh bs n k at → Come sh bs k at → Holds sh bs (tab n (entryOn sh bs))
+  pub holds-from : (fuel k at : ℕ) → length bs < fuel + at → ReadingBody sh bs n k at → Come sh bs k at → HoldsBlocks sh bs (tab n (entryOn sh bs))
   holds-from zero k at short now come = absurd (omega arith)
   holds-from (suc fuel) k at short now come =
       go (stopAt sh (length bs) k at) refl (blockAt sh bs at) refl
       (λ next h r c. holds-from fuel (k + 1) next (omega arith) r c)
     where
       go : (b : Bool) → stopAt sh (length bs) k at ≡ b → (x : Block) → blockAt sh bs at ≡ x
-          → ((next : ℕ) → at < next → Reading sh bs n (k + 1) next → Come sh bs (k + 1) next → Holds sh bs (tab n (entryOn sh bs)))
-          → Holds sh bs (tab n (entryOn sh bs))
+          → ((next : ℕ) → at < next → ReadingBody sh bs n (k + 1) next → Come sh bs (k + 1) next → HoldsBlocks sh bs (tab n (entryOn sh bs)))
+          → HoldsBlocks sh bs (tab n (entryOn sh bs))
       go true s x f rest = holds-last k at now come s
       go false s (Broken r) f rest = absurd (reading-block sh bs n k at now r s f)
       go false s (Found m next) f rest =

@@ -84,7 +84,7 @@ abbrev pub lengthsOf : (ℕ → Message) → ℕ → ℕ
 lengthsOf messages k = messages k .length
 
 -- a list after an answer: filled up to the count, or untouched
-unfoldable pub listAfter : Listed → (ℕ → ℕ) → List ℕ → List ℕ
-listAfter (Count n) f old = filled n f old
-listAfter (Unlisted r) f old = old
-listAfter (NoRoom n) f old = old
+unfoldable pub filledAfter : Listed → (ℕ → ℕ) → List ℕ → List ℕ
+filledAfter (Count n) f old = filled n f old
+filledAfter (Unlisted r) f old = old
+filledAfter (NoRoom n) f old = old

@@ -3,4 +3,4 @@ pub mod Walk
 pub mod Answers
 pub mod Blocks
 pub mod Faults
-pub mod Inner
+pub mod inner

@@ -4,7 +4,7 @@ ghost use mathlib.Core.Path.{_≡_};
 ghost use Prim.Native.Nat.{_+_, _≤_, _^_};
 ghost use lib.ListN.{length};
 ghost use Rattle.body.specs.Walk.{refused, fault};
-ghost use Rattle.body.specs.Answers.{checkBody, messageAt, listOf, messageIn, listAfter, startsOf, lengthsOf};
+ghost use Rattle.body.specs.Answers.{checkBody, messageAt, listOf, messageIn, filledAfter, startsOf, lengthsOf};
 
 mod list;
 pub mod opening;
@@ -129,8 +129,8 @@ pub fn list_messages(
 ) -> Listed
     requires { ⌜ base + length (now body) ≤ 2 ^ 32 ⌝ }
     ensures { λ r. ⌜ r ≡ listOf kind rule (now (body .entry)) (length (now (starts .entry))) (length (now (lengths .entry))) ⌝ }
-    ensures { λ r. ⌜ now (starts .exit) ≡ listAfter r (startsOf base (messageIn kind rule (now (body .entry)))) (now (starts .entry)) ⌝ }
-    ensures { λ r. ⌜ now (lengths .exit) ≡ listAfter r (lengthsOf (messageIn kind rule (now (body .entry)))) (now (lengths .entry)) ⌝ }
+    ensures { λ r. ⌜ now (starts .exit) ≡ filledAfter r (startsOf base (messageIn kind rule (now (body .entry)))) (now (starts .entry)) ⌝ }
+    ensures { λ r. ⌜ now (lengths .exit) ≡ filledAfter r (lengthsOf (messageIn kind rule (now (body .entry)))) (now (lengths .entry)) ⌝ }
 {
     match check_body(body, kind, rule) {
         Checked::Counted(n) => {

@@ -4,7 +4,7 @@ ghost use mathlib.Core.Bool.{true};
 ghost use Prim.Native.Nat.{_≤_};
 ghost use lib.ListN.{length};
 ghost use Rattle.body.specs.Walk.{opens, counterOk, messageShape, uartShape, openBody};
-ghost use Rattle.body.specs.Inner.{stampsIn};
+ghost use Rattle.body.specs.inner.Walks.{stampsIn};
 use crate::Opened;
 use crate::Shape;
 use crate::TimeRule;

@@ -1,7 +1,7 @@
 // Time rules, for message times and the secondary time alike.
 ghost use mathlib.Core.Path.{_≡_};
 ghost use Rattle.body.specs.Times.{timeOk, ruleOf};
-ghost use Rattle.body.specs.Inner.{maskOf, limitOf};
+ghost use Rattle.body.specs.inner.Walks.{maskOf, limitOf};
 use crate::TimeRule;
 
 // Whether a time is in form.

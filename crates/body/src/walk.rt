@@ -3,7 +3,7 @@ ghost use mathlib.Core.Path.{_≡_};
 ghost use Prim.Native.Nat.{_+_, _^_, _≤_, _<_};
 ghost use lib.ListN.{length};
 ghost use mathlib.Core.Bool.{true};
-ghost use Rattle.body.specs.Inner.{maskOf, limitOf, past, walked};
+ghost use Rattle.body.specs.inner.Walks.{maskOf, limitOf, past, walked};
 ghost use Rattle.body.specs.Walk.{opens, stampLength, headAt, blockEnd, judge, blockAt, stopAt, walk};
 ghost use Rattle.body.specs.Answers.{checkBody};
 use crate::Message;

@@ -1,4 +1,4 @@
--- Laws of the builder's steps: what an answer says of the tests behind it, and what a step leaves in its buffer. Assumes nothing.
+-- Laws of the builder's steps: what an answer says of the tests behind it, and what a step leaves in its buffer.
 use mathlib.Core.Path.{_≡_, refl, sym}
 use mathlib.Core.List.{List, _++_}
 use mathlib.Core.Bool.{Bool, true, false, not, _&&_, _||_}
@@ -15,7 +15,7 @@ use Rattle.units.proofs.Choices.{passed, or-false}
 use Rattle.body.specs.Walk.{stampLength, blockSize}
 use Rattle.body.specs.Blocks.{blockBytes}
 use Rattle.body.specs.declared.Refusal.{Refusal}
-use Rattle.builder.specs.Build.{counts, makes, badDraft, denied, openStep, badBlock, badTime, strayTime, grown, added, addStep, entryOf, closeStep, told, bufAfter}
+use Rattle.builder.specs.Build.{counts, makes, badDraft, denied, openStep, badBlock, badTime, strayTime, grown, draftAdded, addStep, entryOf, closeStep, stepTold, bufAfter}
 use Rattle.builder.specs.declared.Draft.{Draft}
 use Rattle.builder.specs.declared.Step.{Step}
 use Rattle.builder.specs.declared.Step.the-variants.{Done, Denied}
@@ -80,10 +80,10 @@ open-done d kind rule room d′ e =
 -- a block that is added passed every test
 pub add-done : (d : Draft) (room time n : ℕ) (d′ : Draft) → addStep d room time n ≡ Done d′
     → (badDraft d room ≡ false) × (badBlock d n ≡ false) × (badTime (d .rule) time ≡ false) × (strayTime (d .rule) time ≡ false)
-    × (grown d n ≤ room) × (d′ ≡ added d n)
+    × (grown d n ≤ room) × (d′ ≡ draftAdded d n)
 unfolding addStep
 add-done d room time n d′ e =
-    let y₄ : Step = pick (ltb room (grown d n)) (denied 16 (grown d n) d) (Done (added d n)) in
+    let y₄ : Step = pick (ltb room (grown d n)) (denied 16 (grown d n) d) (Done (draftAdded d n)) in
     let y₃ : Step = pick (strayTime (d .rule) time) (denied 17 0 d) y₄ in
     let y₂ : Step = pick (badTime (d .rule) time) (denied 15 0 d) y₃ in
     let y₁ : Step = pick (badBlock d n) (denied 17 0 d) y₂ in
@@ -91,8 +91,8 @@ add-done d room time n d′ e =
     let q = passed (badBlock d n) (denied 17 0 d) y₂ (Done d′) (not-done _ d d′) (p .1) in
     let r = passed (badTime (d .rule) time) (denied 15 0 d) y₃ (Done d′) (not-done _ d d′) (q .1) in
     let s = passed (strayTime (d .rule) time) (denied 17 0 d) y₄ (Done d′) (not-done _ d d′) (r .1) in
-    let t = passed (ltb room (grown d n)) (denied 16 (grown d n) d) (Done (added d n)) (Done d′) (not-done _ d d′) (s .1) in
-    let same : d′ ≡ added d n = cc (t .1) in
+    let t = passed (ltb room (grown d n)) (denied 16 (grown d n) d) (Done (draftAdded d n)) (Done d′) (not-done _ d d′) (s .1) in
+    let same : d′ ≡ draftAdded d n = cc (t .1) in
     (p .0, q .0, r .0, s .0, ltb-false room (grown d n) (t .0), same)
 
 pub close-done : (d : Draft) (room : ℕ) (d′ : Draft) → closeStep d room ≡ Done d′ → (badDraft d room ≡ false) × (d .used ≡ 4 → ⊥) × (d′ ≡ d)
@@ -105,11 +105,11 @@ close-done d room d′ e =
     (p .0, eqb-false (d .used) 4 (q .0), same)
 
 -- closing that is not refused is done
-pub close-told : (d : Draft) (len : ℕ) → told (closeStep d len) .number ≡ 0 → closeStep d len ≡ Done d
+pub close-told : (d : Draft) (len : ℕ) → stepTold (closeStep d len) .number ≡ 0 → closeStep d len ≡ Done d
 unfolding closeStep
 close-told d len e = go (badDraft d len) (eqb (d .used) 4) e
   where
-    go : (t u : Bool) → told (pick t (denied 1 0 d) (pick u (denied 15 0 d) (Done d))) .number ≡ 0 → pick t (denied 1 0 d) (pick u (denied 15 0 d) (Done d)) ≡ Done d
+    go : (t u : Bool) → stepTold (pick t (denied 1 0 d) (pick u (denied 15 0 d) (Done d))) .number ≡ 0 → pick t (denied 1 0 d) (pick u (denied 15 0 d) (Done d)) ≡ Done d
     go true u e = absurd (omega arith)
     go false true e = absurd (omega arith)
     go false false e = refl

@@ -1,4 +1,4 @@
--- Building step by step: what is closed last is the body of the blocks added. Assumes nothing.
+-- Building step by step: what is closed last is the body of the blocks added.
 use mathlib.Core.Path.{_≡_, refl, sym, ap, _∙_, subst}
 use mathlib.Core.List.{List, [], _∷_, _++_, append-assoc, append-nil}
 use mathlib.Core.Bool.{Bool, true, false, not, _&&_, _||_}
@@ -20,7 +20,7 @@ use Rattle.body.specs.Walk.{messageShape, uartShape, openBody, stampLength}
 use Rattle.body.specs.Blocks.{Entry, blockBytes, blocksBytes, Fits, AllFit, BodyOf}
 use Rattle.body.specs.declared.TimeRule.{TimeRule}
 use Rattle.body.specs.declared.Opened.the-variants.{Shaped}
-use Rattle.builder.specs.Build.{stamped, makes, openStep, openWord, grown, added, addStep, entryOf, closeStep, counterBytes, bufAfter, told, entriesAfter}
+use Rattle.builder.specs.Build.{stamped, makes, openStep, openWord, grown, draftAdded, addStep, entryOf, closeStep, counterBytes, bufAfter, stepTold, entriesAfter}
 use Rattle.builder.specs.Run.{Built, closedBody}
 use Rattle.builder.specs.declared.Draft.{Draft}
 use Rattle.builder.specs.declared.Step.{Step}
@@ -169,8 +169,8 @@ open-grown buf kind rule made long =
 
 add-grown : (buf : List ℕ) (d : Draft) (es : List Entry) (e : Entry) → Grown buf d es → Fits (stamped (d .rule)) (ruleOf (d .rule)) e
     → grown d (length (e .bytes)) ≤ length buf → (d .kind ≡ 0x30 → d .blocks < 65535)
-    → Grown (splice buf (d .used) (blockBytes (stamped (d .rule)) e)) (added d (length (e .bytes))) (es ++ (e ∷ []))
-unfolding added grown
+    → Grown (splice buf (d .used) (blockBytes (stamped (d .rule)) e)) (draftAdded d (length (e .bytes))) (es ++ (e ∷ []))
+unfolding draftAdded grown
 add-grown buf d es e g ok fits few =
     let st = stamped (d .rule) in
     let B = blockBytes st e in
@@ -246,14 +246,14 @@ module _ (buf : List ℕ) (d : Draft) (es : List Entry) (kept : Kept buf d es) w
   back d′ same = subst (λ (x : Draft). Kept buf x es) (sym same) kept
 
   open-kept : (kind rule : ℕ) → Kept (bufAfter (openStep d kind rule (length buf)) buf 0 (bytesOf 4 (openWord kind rule)))
-      (told (openStep d kind rule (length buf)) .draft) (entriesAfter (openStep d kind rule (length buf)) [] es)
+      (stepTold (openStep d kind rule (length buf)) .draft) (entriesAfter (openStep d kind rule (length buf)) [] es)
   unfolding bufAfter
   open-kept kind rule = go (openStep d kind rule (length buf)) refl
     where
       vs : List ℕ
       vs = bytesOf 4 (openWord kind rule)
 
-      go : (s : Step) → openStep d kind rule (length buf) ≡ s → Kept (bufAfter s buf 0 vs) (told s .draft) (entriesAfter s [] es)
+      go : (s : Step) → openStep d kind rule (length buf) ≡ s → Kept (bufAfter s buf 0 vs) (stepTold s .draft) (entriesAfter s [] es)
       go (Denied r d′) e = back d′ (open-denied d kind rule (length buf) r d′ e)
       go (Done d′) e =
           let p = open-done d kind rule (length buf) d′ e in
@@ -261,7 +261,7 @@ module _ (buf : List ℕ) (d : Draft) (es : List Entry) (kept : Kept buf d es) w
 
   add-kept : (time upper : ℕ) (bytes : List ℕ) → time < 2 ^ 64 → upper < 2 ^ 16
       → Kept (bufAfter (addStep d (length buf) time (length bytes)) buf (d .used) (blockBytes (stamped (d .rule)) (entryOf time upper bytes)))
-      (told (addStep d (length buf) time (length bytes)) .draft)
+      (stepTold (addStep d (length buf) time (length bytes)) .draft)
       (entriesAfter (addStep d (length buf) time (length bytes)) (es ++ (entryOf time upper bytes ∷ [])) es)
   unfolding bufAfter
   add-kept time upper bytes wide half = go (addStep d (length buf) time (length bytes)) refl
@@ -272,7 +272,7 @@ module _ (buf : List ℕ) (d : Draft) (es : List Entry) (kept : Kept buf d es) w
       vs : List ℕ
       vs = blockBytes (stamped (d .rule)) entry
 
-      go : (s : Step) → addStep d (length buf) time (length bytes) ≡ s → Kept (bufAfter s buf (d .used) vs) (told s .draft) (entriesAfter s (es ++ (entry ∷ [])) es)
+      go : (s : Step) → addStep d (length buf) time (length bytes) ≡ s → Kept (bufAfter s buf (d .used) vs) (stepTold s .draft) (entriesAfter s (es ++ (entry ∷ [])) es)
       go (Denied r d′) e = back d′ (add-denied d (length buf) time (length bytes) r d′ e)
       go (Done d′) e =
           let p = add-done d (length buf) time (length bytes) d′ e in
@@ -283,11 +283,11 @@ module _ (buf : List ℕ) (d : Draft) (es : List Entry) (kept : Kept buf d es) w
           let g = add-grown buf d es entry (kept .0 (f .1)) ok (p .4) (n .2) in
           ((λ _. subst (λ (x : Draft). Grown (splice buf (d .used) vs) x (es ++ (entry ∷ []))) (sym (p .5)) g), λ _. rw (p .5) (omega (arith, g .used-is)))
 
-  close-kept : Kept (bufAfter (closeStep d (length buf)) buf 0 (counterBytes d)) (told (closeStep d (length buf)) .draft) es
+  close-kept : Kept (bufAfter (closeStep d (length buf)) buf 0 (counterBytes d)) (stepTold (closeStep d (length buf)) .draft) es
   unfolding bufAfter
   close-kept = go (closeStep d (length buf)) refl
     where
-      go : (s : Step) → closeStep d (length buf) ≡ s → Kept (bufAfter s buf 0 (counterBytes d)) (told s .draft) es
+      go : (s : Step) → closeStep d (length buf) ≡ s → Kept (bufAfter s buf 0 (counterBytes d)) (stepTold s .draft) es
       go (Denied r d′) e = back d′ (close-denied d (length buf) r d′ e)
       go (Done d′) e =
           let p = close-done d (length buf) d′ e in
@@ -355,7 +355,7 @@ grown-body buf d es rule g more same = go (eqb (d .kind) 0x30) refl
         (uart-body rule bs es word st bytes enough all (kept ∙ g .word-is k ∙ uart-word (d .kind) (d .rule) k))
 
 -- what is built step by step and closed last is the body of the blocks added, under its time rule, or any where no time is stored
-pub built-body : {buf : List ℕ} {d : Draft} {es : List Entry} (rule : TimeRule) → Built buf d es → told (closeStep d (length buf)) .number ≡ 0
+pub built-body : {buf : List ℕ} {d : Draft} {es : List Entry} (rule : TimeRule) → Built buf d es → stepTold (closeStep d (length buf)) .number ≡ 0
     → (stamped (d .rule) ≡ true → rule ≡ ruleOf (d .rule)) → BodyOf (d .kind) rule (closedBody buf d) es
 built-body {buf} {d} {es} rule b zero same =
     let e = close-told d (length buf) zero in

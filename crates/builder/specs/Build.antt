@@ -69,8 +69,8 @@ strayTime rule time = not (stamped rule) && not (eqb time 0)
 unfoldable pub grown : Draft → ℕ → ℕ
 grown d n = d .used + blockSize (stamped (d .rule)) n
 
-unfoldable pub added : Draft → ℕ → Draft
-added d n = record { used = grown d n; blocks = (d .blocks + 1) % 2 ^ 64; kind = d .kind; rule = d .rule }
+unfoldable pub draftAdded : Draft → ℕ → Draft
+draftAdded d n = record { used = grown d n; blocks = (d .blocks + 1) % 2 ^ 64; kind = d .kind; rule = d .rule }
 
 unfoldable pub addStep : Draft → ℕ → ℕ → ℕ → Step
 addStep d len time n =
@@ -79,7 +79,7 @@ addStep d len time n =
     (pick (badTime (d .rule) time) (denied 15 0 d)
     (pick (strayTime (d .rule) time) (denied 17 0 d)
     (pick (ltb len (grown d n)) (denied 16 (grown d n) d)
-    (Done (added d n))))))
+    (Done (draftAdded d n))))))
 
 -- the block: the time, the ID word made of its upper half and n, and the n bytes
 abbrev pub entryOf : ℕ → ℕ → List ℕ → Entry
@@ -100,15 +100,15 @@ counterBytes d = pick (counts (d .kind)) (bytesOf 2 (d .blocks)) []
 -- ---- after a step
 
 -- document 01's number and values of an answer: 0 and zeros where it is done; and the state that is handed on
-pub record Told : Type 0 where
+pub record StepTold : Type 0 where
   pub number : ℕ
   pub place : ℕ
   pub room : ℕ
   pub draft : Draft
 
-abbrev pub told : Step → Told
-told (Done d) = record { number = 0; place = 0; room = 0; draft = d }
-told (Denied r d) = record { number = r .number; place = r .place; room = r .room; draft = d }
+abbrev pub stepTold : Step → StepTold
+stepTold (Done d) = record { number = 0; place = 0; room = 0; draft = d }
+stepTold (Denied r d) = record { number = r .number; place = r .place; room = r .room; draft = d }
 
 -- the buffer: vs written at `at` where the step is done, else untouched
 unfoldable pub bufAfter : Step → List ℕ → ℕ → List ℕ → List ℕ

@@ -1,17 +1,17 @@
--- What the writer and the builder's steps say of words, from what they say of narrower numbers. Assumes nothing.
+-- What the writer and the builder's steps say of words, from what they say of narrower numbers.
 use mathlib.Core.Path.{_≡_, refl, sym, ap, _∙_}
 use mathlib.Core.List.{List}
 use mathlib.Core.Bool.{Bool, true, false, not, _&&_, _||_}
 use mathlib.Core.Logic.{_⊎_, inl, inr}
 use Prim.Native.Nat.{ℕ, _^_, _<_, _≤_}
 use native.Mathlib.Omega.{arith}
-use lib.Dec.{ltb, leb, eqb}
+use lib.Dec.{ltb, eqb}
 use borrow.Author.Tests.{ltb-true, ltb-false, lt-ltb, le-ltb, ne-eqb}
 use Rattle.units.specs.Choice.{pick}
 use Rattle.units.proofs.Choices.{or-true, or-false, and-true}
 use Rattle.body.specs.Walk.{refused}
 use Rattle.body.specs.declared.Refusal.{Refusal}
-use Rattle.builder.specs.Build.{makes, stamped, badDraft, freshDraft, denied, openStep, addStep, closeStep, bufAfter, told}
+use Rattle.builder.specs.Build.{makes, stamped, badDraft, freshDraft, denied, openStep, addStep, closeStep, bufAfter, stepTold}
 use Rattle.builder.proofs.Drafts.{not-done, buf-kept}
 use Rattle.builder.specs.declared.Draft.{Draft}
 use Rattle.builder.specs.declared.Step.{Step}
@@ -146,40 +146,40 @@ upper-kept d len time upper n old at vs e = rw (lt-ltb 65535 upper e) (go (badDr
 -- ---- what a function here gives, from what those that it calls give
 
 -- words and buffer of a step that is refused with the state given
-pub refused-as : (s : Step) (f g : Refusal) (d : Draft) (words old : List ℕ) (at : ℕ) (vs : List ℕ) → words ≡ draftWords (told (Denied f d)) → f ≡ g
-    → s ≡ Denied g d → (words ≡ draftWords (told s)) × (old ≡ bufAfter s old at vs)
+pub refused-as : (s : Step) (f g : Refusal) (d : Draft) (words old : List ℕ) (at : ℕ) (vs : List ℕ) → words ≡ draftWords (stepTold (Denied f d)) → f ≡ g
+    → s ≡ Denied g d → (words ≡ draftWords (stepTold s)) × (old ≡ bufAfter s old at vs)
 refused-as s f g d words old at vs w e q =
-    (w ∙ ap (λ (x : Refusal). draftWords (told (Denied x d))) e ∙ ap (λ (t : Step). draftWords (told t)) (sym q), buf-kept s g d old at vs q)
+    (w ∙ ap (λ (x : Refusal). draftWords (stepTold (Denied x d))) e ∙ ap (λ (t : Step). draftWords (stepTold t)) (sym q), buf-kept s g d old at vs q)
 
 -- words and buffer of a step on the state e, which is d
 pub step-as : (step : Draft → Step) (at : Draft → ℕ) (vs : Draft → List ℕ) (e d : Draft) (s : Step) (words old new : List ℕ) → e ≡ d → s ≡ step e
-    → words ≡ draftWords (told s) → new ≡ bufAfter s old (at e) (vs e) → (words ≡ draftWords (told (step d))) × (new ≡ bufAfter (step d) old (at d) (vs d))
+    → words ≡ draftWords (stepTold s) → new ≡ bufAfter s old (at e) (vs e) → (words ≡ draftWords (stepTold (step d))) × (new ≡ bufAfter (step d) old (at d) (vs d))
 step-as step at vs e d s words old new q is w b =
     let stepped : s ≡ step d = is ∙ ap step q in
-    (w ∙ ap (λ (t : Step). draftWords (told t)) stepped, b ∙ ap (λ (x : Draft). bufAfter s old (at x) (vs x)) q ∙ ap (λ (t : Step). bufAfter t old (at d) (vs d)) stepped)
+    (w ∙ ap (λ (t : Step). draftWords (stepTold t)) stepped, b ∙ ap (λ (x : Draft). bufAfter s old (at x) (vs x)) q ∙ ap (λ (t : Step). bufAfter t old (at d) (vs d)) stepped)
 
 -- opening, from what it says to a blank state
 module _ (blank d : Draft) (kind rule len : ℕ) (s : Step) (is-blank : blank ≡ freshDraft) (is : s ≡ openStep blank kind rule len) where
   from-blank : s ≡ openStep freshDraft kind rule len
   from-blank = is ∙ ap (λ (x : Draft). openStep x kind rule len) is-blank
 
-  pub opened-as : (d′ : Draft) (words old new : List ℕ) (at : ℕ) (vs : List ℕ) → s ≡ Done d′ → words ≡ draftWords (told s) → new ≡ bufAfter s old at vs
-      → (words ≡ draftWords (told (openStep d kind rule len))) × (new ≡ bufAfter (openStep d kind rule len) old at vs)
+  pub opened-as : (d′ : Draft) (words old new : List ℕ) (at : ℕ) (vs : List ℕ) → s ≡ Done d′ → words ≡ draftWords (stepTold s) → new ≡ bufAfter s old at vs
+      → (words ≡ draftWords (stepTold (openStep d kind rule len))) × (new ≡ bufAfter (openStep d kind rule len) old at vs)
   opened-as d′ words old new at vs done w b =
       let same : s ≡ openStep d kind rule len = done ∙ sym (open-any d kind rule len d′ (sym from-blank ∙ done)) in
-      (w ∙ ap (λ (t : Step). draftWords (told t)) same, b ∙ ap (λ (t : Step). bufAfter t old at vs) same)
+      (w ∙ ap (λ (t : Step). draftWords (stepTold t)) same, b ∙ ap (λ (t : Step). bufAfter t old at vs) same)
 
-  pub unopened-as : (f : Refusal) (d′ : Draft) (words old new : List ℕ) (at : ℕ) (vs : List ℕ) → s ≡ Denied f d′ → words ≡ draftWords (told (Denied f d))
-      → new ≡ bufAfter s old at vs → (words ≡ draftWords (told (openStep d kind rule len))) × (new ≡ bufAfter (openStep d kind rule len) old at vs)
+  pub unopened-as : (f : Refusal) (d′ : Draft) (words old new : List ℕ) (at : ℕ) (vs : List ℕ) → s ≡ Denied f d′ → words ≡ draftWords (stepTold (Denied f d))
+      → new ≡ bufAfter s old at vs → (words ≡ draftWords (stepTold (openStep d kind rule len))) × (new ≡ bufAfter (openStep d kind rule len) old at vs)
   unopened-as f d′ words old new at vs denies w b =
       let back = open-back d kind rule len f d′ (sym from-blank ∙ denies) in
-      (w ∙ ap (λ (t : Step). draftWords (told t)) (sym back), b ∙ sym (buf-kept s f d′ old at vs denies) ∙ buf-kept (openStep d kind rule len) f d old at vs back)
+      (w ∙ ap (λ (t : Step). draftWords (stepTold t)) (sym back), b ∙ sym (buf-kept s f d′ old at vs denies) ∙ buf-kept (openStep d kind rule len) f d old at vs back)
 
 -- adding with an upper half that does not fit, from what adding no bytes says
 pub upper-as : (e d : Draft) (s : Step) (len time upper n : ℕ) (words old new : List ℕ) (at at′ : ℕ) (vs vs′ : List ℕ) → 65535 < upper → e ≡ d → s ≡ addStep e len time 0
-    → words ≡ draftWords (told s) → new ≡ bufAfter s old at vs
-    → (words ≡ draftWords (told (addGiven d len time upper n))) × (new ≡ bufAfter (addGiven d len time upper n) old at′ vs′)
+    → words ≡ draftWords (stepTold s) → new ≡ bufAfter s old at vs
+    → (words ≡ draftWords (stepTold (addGiven d len time upper n))) × (new ≡ bufAfter (addGiven d len time upper n) old at′ vs′)
 upper-as e d s len time upper n words old new at at′ vs vs′ far q is w b =
     let same : s ≡ addGiven d len time upper n = is ∙ ap (λ (x : Draft). addStep x len time 0) q ∙ upper-over d len time upper n far in
     let kept : new ≡ old = b ∙ ap (λ (t : Step). bufAfter t old at vs) same ∙ upper-kept d len time upper n old at vs far in
-    (w ∙ ap (λ (t : Step). draftWords (told t)) same, kept ∙ sym (upper-kept d len time upper n old at′ vs′ far))
+    (w ∙ ap (λ (t : Step). draftWords (stepTold t)) same, kept ∙ sym (upper-kept d len time upper n old at′ vs′ far))

@@ -1,4 +1,4 @@
--- No two outcomes satisfy the statement of a call (specs/Calls.antt). Assumes nothing.
+-- No two outcomes satisfy the statement of a call (specs/Calls.antt).
 use mathlib.Core.Path.{_≡_, sym, ap, _∙_}
 use mathlib.Core.List.{List}
 use Prim.Native.Nat.{ℕ}

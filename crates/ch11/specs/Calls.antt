@@ -6,9 +6,9 @@ use Prim.Native.Nat.{ℕ}
 use lib.ListN.{length, getD}
 use Rattle.units.specs.Units.{bytesOf}
 use Rattle.body.specs.Blocks.{blockBytes}
-use Rattle.builder.specs.Build.{stamped, openStep, openWord, entryOf, closeStep, counterBytes, bufAfter, told as Build·told}
+use Rattle.builder.specs.Build.{stamped, openStep, openWord, entryOf, closeStep, counterBytes, bufAfter, stepTold}
 use Rattle.packet_bytes.specs.Bytes.{packetBytes}
-use Rattle.packet.specs.Read.{window, readPacket, told}
+use Rattle.packet.specs.Read.{window, readPacket, packetTold}
 use Rattle.packet.specs.Messages.{listPacket, listAfter, listTold, starts, lengths, messagePacket, messageTold}
 use Rattle.packet.specs.Write.{outAfter, writeTold}
 use Rattle.recording.specs.Reading.{readRecording}
@@ -23,7 +23,7 @@ Holds words r struct = (struct ≡ words) × (r ≡ getD struct 0 0)
 
 -- ch11_read_packet(buf, start, end, packet)
 abbrev pub ReadPacket : List ℕ → ℕ → ℕ → ℕ → List ℕ → Type 0
-ReadPacket buf start end = Holds (packetWords (told (readPacket buf start end)))
+ReadPacket buf start end = Holds (packetWords (packetTold (readPacket buf start end)))
 
 -- ch11_list_messages(buf, start, end, starts, lengths, list): the two lists at entry; then the number, the struct and the two lists at exit
 abbrev pub ListMessages : List ℕ → ℕ → ℕ → List ℕ → List ℕ → ℕ → List ℕ → List ℕ → List ℕ → Type 0
@@ -53,18 +53,18 @@ WritePacket fields body out₀ r written out₁ =
 -- ch11_open(draft, buf, type, rule)
 abbrev pub Open : List ℕ → List ℕ → ℕ → ℕ → ℕ → List ℕ → List ℕ → Type 0
 Open draft₀ buf₀ kind rule r draft₁ buf₁ =
-    Holds (draftWords (Build·told (openStep (draftOf draft₀) kind rule (length buf₀)))) r draft₁
+    Holds (draftWords (stepTold (openStep (draftOf draft₀) kind rule (length buf₀)))) r draft₁
     × (buf₁ ≡ bufAfter (openStep (draftOf draft₀) kind rule (length buf₀)) buf₀ 0 (bytesOf 4 (openWord kind rule)))
 
 -- ch11_add(draft, buf, time, upper, bytes)
 abbrev pub Add : List ℕ → List ℕ → ℕ → ℕ → List ℕ → ℕ → List ℕ → List ℕ → Type 0
 Add draft₀ buf₀ time upper bytes r draft₁ buf₁ =
-    Holds (draftWords (Build·told (addGiven (draftOf draft₀) (length buf₀) time upper (length bytes)))) r draft₁
+    Holds (draftWords (stepTold (addGiven (draftOf draft₀) (length buf₀) time upper (length bytes)))) r draft₁
     × (buf₁ ≡ bufAfter (addGiven (draftOf draft₀) (length buf₀) time upper (length bytes)) buf₀ (draftOf draft₀ .used)
     (blockBytes (stamped (draftOf draft₀ .rule)) (entryOf time upper bytes)))
 
 -- ch11_close(draft, buf)
 abbrev pub Close : List ℕ → List ℕ → ℕ → List ℕ → List ℕ → Type 0
 Close draft₀ buf₀ r draft₁ buf₁ =
-    Holds (draftWords (Build·told (closeStep (draftOf draft₀) (length buf₀)))) r draft₁
+    Holds (draftWords (stepTold (closeStep (draftOf draft₀) (length buf₀)))) r draft₁
     × (buf₁ ≡ bufAfter (closeStep (draftOf draft₀) (length buf₀)) buf₀ 0 (counterBytes (draftOf draft₀)))

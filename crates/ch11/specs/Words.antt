@@ -2,9 +2,9 @@
 use mathlib.Core.List.{List, [], _∷_, _++_}
 use Prim.Native.Nat.{ℕ}
 use Rattle.body.specs.declared.Refusal.{Refusal}
-use Rattle.builder.specs.Build.{Told as Build·Told}
+use Rattle.builder.specs.Build.{StepTold}
 use Rattle.frame.specs.declared.Fields.{Fields}
-use Rattle.packet.specs.Read.{Told}
+use Rattle.packet.specs.Read.{PacketTold}
 use Rattle.packet.specs.Messages.{ListTold, MessageTold}
 use Rattle.packet.specs.Write.{WriteTold}
 use Rattle.packet.specs.declared.Part.{Part}
@@ -27,11 +27,11 @@ partWords p = p .at ∷ p .length ∷ []
 -- ---- results
 
 -- struct ch11_packet
-unfoldable pub packetWords : Told → List ℕ
+unfoldable pub packetWords : PacketTold → List ℕ
 packetWords t =
     refusalWords (t .refusal)
     ++ fieldsWords (t .packet .fields)
-    ++ (t .packet .length ∷ t .packet .datalength ∷ t .packet .headsum ∷ t .packet .datasum ∷ [])
+    ++ (t .packet .length ∷ t .packet .«data_length» ∷ t .packet .«header_sum» ∷ t .packet .«data_sum» ∷ [])
     ++ partWords (t .packet .header)
     ++ partWords (t .packet .secondary)
     ++ partWords (t .packet .body)
@@ -55,5 +55,5 @@ unfoldable pub writtenWords : WriteTold → List ℕ
 writtenWords t = refusalWords (t .refusal) ++ (t .length ∷ [])
 
 -- struct ch11_draft
-unfoldable pub draftWords : Build·Told → List ℕ
+unfoldable pub draftWords : StepTold → List ℕ
 draftWords t = t .number ∷ t .place ∷ t .room ∷ t .draft .used ∷ t .draft .blocks ∷ t .draft .kind ∷ t .draft .rule ∷ []

@@ -5,7 +5,7 @@ ghost use lib.ListN.{length, getD};
 ghost use lib.Dec.{ltb};
 ghost use Rattle.units.specs.Units.{bytesOf};
 ghost use Rattle.body.specs.Blocks.{blockBytes};
-ghost use Rattle.builder.specs.Build.{stamped, openStep, openWord, entryOf, closeStep, counterBytes, bufAfter, told};
+ghost use Rattle.builder.specs.Build.{stamped, openStep, openWord, entryOf, closeStep, counterBytes, bufAfter, stepTold};
 ghost use Rattle.builder.specs.declared.Step.the-variants.{Denied};
 ghost use Rattle.packet_bytes.specs.Bytes.{packetBytes};
 ghost use Rattle.packet.specs.Write.{outAfter};
@@ -55,7 +55,7 @@ pub fn write_given(ws: &[u64; 7], body: &[u8], out: &mut [u8]) -> PacketWrite
 
 // The words of a step.
 fn step_words(step: Step) -> [u64; 7]
-    ensures { λ r. ⌜ r ≡ draftWords (told step) ⌝ }
+    ensures { λ r. ⌜ r ≡ draftWords (stepTold step) ⌝ }
 {
     match step {
         Step::Done(d) => [
@@ -81,7 +81,7 @@ fn step_words(step: Step) -> [u64; 7]
 
 // The words of a refused step: this refusal, and the state as it was given.
 fn denied_words(f: Refusal, ws: [u64; 7]) -> [u64; 7]
-    ensures { λ r. ⌜ r ≡ draftWords (told (Denied f (draftOf ws))) ⌝ }
+    ensures { λ r. ⌜ r ≡ draftWords (stepTold (Denied f (draftOf ws))) ⌝ }
 {
     [
         f.number as u64,
@@ -116,7 +116,7 @@ fn draft_of(ws: [u64; 7]) -> Draft
 
 // Opens a body. The state in these words has no say, and is handed back on a refusal.
 pub fn open_given(ws: [u64; 7], buf: &mut [u8], kind: u64, rule: u64) -> [u64; 7]
-    ensures { λ r. ⌜ r ≡ draftWords (told (openStep (draftOf ws) kind rule (length (now (buf .entry))))) ⌝ }
+    ensures { λ r. ⌜ r ≡ draftWords (stepTold (openStep (draftOf ws) kind rule (length (now (buf .entry))))) ⌝ }
     ensures { λ r. ⌜ now (buf .exit) ≡ bufAfter (openStep (draftOf ws) kind rule (length (now (buf .entry)))) (now (buf .entry)) 0 (bytesOf 4 (openWord kind rule)) ⌝ }
 {
     if over_byte(kind, rule) {
@@ -131,7 +131,7 @@ pub fn open_given(ws: [u64; 7], buf: &mut [u8], kind: u64, rule: u64) -> [u64; 7
 
 // Adds a block; an upper half that does not fit is refused as a block of no bytes is: 1, then 17.
 pub fn add_given(ws: [u64; 7], buf: &mut [u8], time: u64, upper: u64, bytes: &[u8]) -> [u64; 7]
-    ensures { λ r. ⌜ r ≡ draftWords (told (addGiven (draftOf ws) (length (now (buf .entry))) time upper (length (now (bytes .entry))))) ⌝ }
+    ensures { λ r. ⌜ r ≡ draftWords (stepTold (addGiven (draftOf ws) (length (now (buf .entry))) time upper (length (now (bytes .entry))))) ⌝ }
     ensures { λ r. ⌜ now (buf .exit) ≡ bufAfter (addGiven (draftOf ws) (length (now (buf .entry))) time upper (length (now (bytes .entry)))) (now (buf .entry)) (draftOf ws .used) (blockBytes (stamped (draftOf ws .rule)) (entryOf time upper (now (bytes .entry)))) ⌝ }
 {
     if over_byte(ws[5], ws[6]) {
@@ -146,7 +146,7 @@ pub fn add_given(ws: [u64; 7], buf: &mut [u8], time: u64, upper: u64, bytes: &[u
 
 // Closes a body.
 pub fn close_given(ws: [u64; 7], buf: &mut [u8]) -> [u64; 7]
-    ensures { λ r. ⌜ r ≡ draftWords (told (closeStep (draftOf ws) (length (now (buf .entry))))) ⌝ }
+    ensures { λ r. ⌜ r ≡ draftWords (stepTold (closeStep (draftOf ws) (length (now (buf .entry))))) ⌝ }
     ensures { λ r. ⌜ now (buf .exit) ≡ bufAfter (closeStep (draftOf ws) (length (now (buf .entry)))) (now (buf .entry)) 0 (counterBytes (draftOf ws)) ⌝ }
 {
     if over_byte(ws[5], ws[6]) {

@@ -1,6 +1,6 @@
 // An answer as the words of its struct.
 ghost use mathlib.Core.Path.{_≡_};
-ghost use Rattle.packet.specs.Read.{told};
+ghost use Rattle.packet.specs.Read.{packetTold};
 ghost use Rattle.packet.specs.declared.PacketRead.the-variants.{Accepted, Refused};
 ghost use Rattle.packet.specs.Messages.{listTold, messageTold};
 ghost use Rattle.packet.specs.Write.{writeTold};
@@ -14,7 +14,7 @@ use recording::Recording;
 
 // struct ch11_packet of an accepted packet.
 pub fn packet_words(p: Packet) -> [u64; 24]
-    ensures { λ r. ⌜ r ≡ packetWords (told (Accepted p)) ⌝ }
+    ensures { λ r. ⌜ r ≡ packetWords (packetTold (Accepted p)) ⌝ }
 {
     [
         0,
@@ -28,9 +28,9 @@ pub fn packet_words(p: Packet) -> [u64; 24]
         p.fields.rtc,
         p.fields.time,
         p.length as u64,
-        p.datalength as u64,
-        p.headsum as u64,
-        p.datasum as u64,
+        p.data_length as u64,
+        p.header_sum as u64,
+        p.data_sum as u64,
         p.header.at as u64,
         p.header.length as u64,
         p.secondary.at as u64,
@@ -46,7 +46,7 @@ pub fn packet_words(p: Packet) -> [u64; 24]
 
 // struct ch11_packet of a refusal. Apart from the accepted packet's: a struct made of both would be copied.
 pub fn refused_words(f: Refusal) -> [u64; 24]
-    ensures { λ r. ⌜ r ≡ packetWords (told (Refused f)) ⌝ }
+    ensures { λ r. ⌜ r ≡ packetWords (packetTold (Refused f)) ⌝ }
 {
     let mut words = [0; 24];
     words[0] = f.number as u64;

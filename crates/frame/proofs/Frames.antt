@@ -1,4 +1,4 @@
--- What a window whose frame is let through says, rule by rule, and that what stands behind its packet has no say. Assumes nothing.
+-- What a window whose frame is let through says, rule by rule, and that what stands behind its packet has no say.
 use mathlib.Core.Path.{_≡_, refl, sym, ap, _∙_}
 use mathlib.Core.List.{List, _++_}
 use mathlib.Core.Bool.{Bool, true, false, _&&_}
@@ -16,7 +16,7 @@ use Rattle.units.proofs.Sums.{sum-prefix}
 use Rattle.frame.specs.Header.{byte, channelIn, packetLength, dataLength, versionIn, flagsIn, kindIn, headerSumIn, secondaryLength, sumLength, bodyAt, unfilledLength, lengthFor, fillerAt, sumAt, fillerLength, secondaryIn, bodyIn, fillerIn, bodyAndFillerIn, dataSumIn, fieldsIn}
 use Rattle.frame.specs.Rules.{versionOk, typeOk, flagsOk, channelOk, limit, lengthsOk, enough, synced, headerSummed, whole, secondarySummed, secondaryOk, dataSummed, fillerOk}
 use Rattle.frame.specs.Table.{first, headLines, valueLines, valuesIn, wholeLines, secondaryLines, trailerLines, frameLines}
-use Rattle.frame.specs.Inner.{Sound}
+use Rattle.frame.specs.inner.Lengths.{Sound}
 use Rattle.frame.proofs.Tables.{holds, numbered, stage-none, stage-first, stage-second}
 
 -- ---- the parts of the table

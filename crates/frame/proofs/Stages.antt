@@ -1,8 +1,8 @@
--- The code's tests are the table's: each rule of bytes from what the code compares, and the table from its parts. Assumes nothing.
+-- The code's tests are the table's: each rule of bytes from what the code compares, and the table from its parts.
 use mathlib.Core.Path.{_≡_, sym, _∙_}
 use mathlib.Core.List.{List, [], _++_}
 use mathlib.Core.Bool.{Bool, true, _&&_}
-use Prim.Native.Nat.{ℕ, _+_, _-_, _%_, _≤_, _<_}
+use Prim.Native.Nat.{ℕ, _-_, _%_, _≤_, _<_}
 use native.Mathlib.Omega.{arith}
 use native.Mathlib.Nat.{mod-one}
 use lib.ListN.{length}
@@ -14,13 +14,13 @@ use Rattle.body.proofs.Blocks.{zero-ok}
 use Rattle.frame.specs.Header.{packetLength, flagsIn, secondaryBit, timeIn, sumAt, bodyAndFillerIn}
 use Rattle.frame.specs.Rules.{secondaryTimeOk, secondarySummed, secondaryOk, dataSummed, fillerOk}
 use Rattle.frame.specs.Table.{Line, first, wholeLines, secondaryLines}
-use Rattle.frame.specs.Inner.{Measured}
+use Rattle.frame.specs.inner.Lengths.{Measured}
 use Rattle.frame.specs.declared.Layout.{Layout}
 use Rattle.frame.proofs.Tables.{stands, passes, none, numbered, stage-none}
 
 -- a part of the table that gives 0 leaves the answer to what is behind it
-pub past : (xs ys : List Line) (n : ℕ) → T (numbered xs) → first xs ≡ 0 → n ≡ first ys → n ≡ first (xs ++ ys)
-past xs ys n p z e = e ∙ sym (stage-none xs ys p z)
+pub stage-past : (xs ys : List Line) (n : ℕ) → T (numbered xs) → first xs ≡ 0 → n ≡ first ys → n ≡ first (xs ++ ys)
+stage-past xs ys n p z e = e ∙ sym (stage-none xs ys p z)
 
 -- ---- 10
 

@@ -1,4 +1,4 @@
--- Laws of tables of rules. Assumes nothing.
+-- Laws of tables of rules.
 use mathlib.Core.Path.{_≡_, refl, sym, subst, _∙_}
 use mathlib.Core.List.{List, [], _∷_, _++_}
 use mathlib.Core.Bool.{Bool, true, false, not, _&&_}

@@ -1,4 +1,4 @@
--- The defined types are 35, and the code's words of bits have them and the flags that may be. Assumes nothing.
+-- The defined types are 35, and the code's words of bits have them and the flags that may be.
 use mathlib.Core.Path.{_≡_, refl, sym, ap, _∙_, subst}
 use mathlib.Core.Bool.{Bool, true, false, not, _&&_}
 use Prim.Native.Nat.{ℕ, zero, suc, _+_, _-_, _/_, _%_, _^_, _<_, _≤_}

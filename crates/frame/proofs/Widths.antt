@@ -1,4 +1,4 @@
--- Laws of the data sum's width, and of a sum that is read or put by cases of its code. Assumes nothing.
+-- Laws of the data sum's width, and of a sum that is read or put by cases of its code.
 use mathlib.Core.Path.{_≡_, refl}
 use mathlib.Core.List.{List}
 use Prim.Native.Nat.{ℕ, zero, suc, _+_, _%_, _≤_, _<_}
@@ -6,12 +6,6 @@ use native.Mathlib.Omega.{arith}
 use lib.ListN.{set, length}
 use Rattle.units.specs.Units.{field, splice, bytesOf, sumWidth}
 use Rattle.units.proofs.Writes.{stored}
-
-pub width-most : (code : ℕ) → sumWidth code ≤ 4
-width-most zero = omega arith
-width-most (suc zero) = omega arith
-width-most (suc (suc zero)) = omega arith
-width-most (suc (suc (suc n))) = omega arith
 
 pub width-is : (code : ℕ) → code < 3 → sumWidth code ≡ code
 width-is zero h = refl

@@ -1,4 +1,4 @@
 pub mod Header
 pub mod Rules
 pub mod Table
-pub mod Inner
+pub mod inner

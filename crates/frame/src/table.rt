@@ -5,7 +5,7 @@ ghost use lib.ListN.{length};
 ghost use Rattle.frame.specs.Header.{flagsIn, secondaryBit, timeIn, fieldsIn};
 ghost use Rattle.frame.specs.Rules.{headerSummed, secondarySummed, secondaryOk, dataSummed, fillerOk};
 ghost use Rattle.frame.specs.Table.{first, headLines, valuesIn, secondaryLines, trailerLines, frameLines};
-ghost use Rattle.frame.specs.Inner.{Sound, Measured};
+ghost use Rattle.frame.specs.inner.Lengths.{Sound, Measured};
 use crate::Fields;
 use crate::Layout;
 use crate::head::read_sum;

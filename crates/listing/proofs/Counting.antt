@@ -1,4 +1,4 @@
--- What the listing counts: messages, from what the lister says with lists of any lengths; bytes of input. Assumes nothing.
+-- What the listing counts: messages, from what the lister says with lists of any lengths; bytes of input.
 use mathlib.Core.Path.{_≡_, sym, ap, _∙_}
 use mathlib.Core.List.{List}
 use mathlib.Core.Bool.{Bool, true, false}

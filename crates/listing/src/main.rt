@@ -41,7 +41,7 @@ fn show_packet(number: usize, packet: Packet, messages: usize) -> bool {
         && show_fields(packet.fields)
         && line(b"body=", packet.body.length as u64)
         && line(b"filler=", packet.filler.length as u64)
-        && line(b"sum=", packet.datasum as u64)
+        && line(b"sum=", packet.data_sum as u64)
         && line(b"messages=", messages as u64)
 }
 

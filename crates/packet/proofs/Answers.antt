@@ -1,4 +1,4 @@
--- What the calls say, from what the functions below them say. Assumes nothing.
+-- What the calls say, from what the functions below them say.
 use mathlib.Core.Path.{_≡_, refl, sym, ap, _∙_}
 use mathlib.Core.List.{List}
 use mathlib.Core.Bool.{Bool, true, false}
@@ -13,7 +13,7 @@ use Rattle.units.specs.Choice.{pick}
 use Rattle.units.proofs.Choices.{and-true}
 use Rattle.units.proofs.Parts.{length-part}
 use Rattle.body.specs.Walk.{refused, fault, opens, openBody}
-use Rattle.body.specs.Answers.{checkBody, messageIn, messageAt, pickCounted, listOf, listCounted, startsOf, lengthsOf, listAfter as Body·listAfter}
+use Rattle.body.specs.Answers.{checkBody, messageIn, messageAt, pickCounted, listOf, listCounted, startsOf, lengthsOf, filledAfter}
 use Rattle.body.proofs.Bounds.{faulty-place, message-fits}
 use Rattle.body.specs.declared.TimeRule.{TimeRule}
 use Rattle.body.specs.declared.Refusal.{Refusal}
@@ -27,13 +27,13 @@ use Rattle.body.specs.declared.Listed.the-variants.{Count, Unlisted as Body·Un
 use Rattle.frame.specs.Header.{packetLength, dataLength, flagsIn, kindIn, headerSumIn, sumLength, secondaryLength, bodyAt, bodyIn, fieldsIn}
 use Rattle.frame.specs.Rules.{messageRule}
 use Rattle.frame.specs.Table.{first, frameLines}
-use Rattle.frame.specs.Inner.{Sound, Measured}
+use Rattle.frame.specs.inner.Lengths.{Sound, Measured}
 use Rattle.frame.specs.declared.Layout.{Layout}
 use Rattle.frame.specs.declared.Fields.{Fields}
 use Rattle.frame.proofs.Tables.{stands, passes, holds}
 use Rattle.frame.proofs.Frames.{frame-sound}
 use Rattle.packet.specs.Read.{inside, window, outerLines, outerRefusal, partAt, packetIn, bodyChecked, bodyAnswer, readPacket}
-use Rattle.packet.specs.Inner.{passOf}
+use Rattle.packet.specs.inner.Passes.{passOf}
 use Rattle.packet.specs.Messages.{countOf, messageCount, kthMessage, listAnswer, listPacket, listAfter, starts, lengths, messageAnswer, messagePacket}
 use Rattle.packet.specs.declared.Packet.{Packet}
 use Rattle.packet.specs.declared.PacketRead.{PacketRead}
@@ -60,14 +60,14 @@ module _ (buf : List ℕ) (s e : ℕ) where
   outer-inside n h g q = passes 1 n (frameLines (window buf s e)) (rw (le-leb s e h, le-leb e (length buf) g)) q
 
 -- a window that 1 to 14 let through
-pub record Open (buf : List ℕ) (s e : ℕ) : Type 0 where
+pub record LetThrough (buf : List ℕ) (s e : ℕ) : Type 0 where
   pub ordered : s ≤ e
   pub within : e ≤ length buf
   pub framed : first (frameLines (window buf s e)) ≡ 0
   pub sound : Sound (window buf s e)
   pub reach : s + length (window buf s e) ≡ e
 
-pub outer-open : (buf : List ℕ) (s e : ℕ) → outerRefusal buf s e ≡ 0 → Open buf s e
+pub outer-open : (buf : List ℕ) (s e : ℕ) → outerRefusal buf s e ≡ 0 → LetThrough buf s e
 unfolding outerRefusal outerLines
 outer-open buf s e z =
     let w = window buf s e in
@@ -86,7 +86,7 @@ outer-open buf s e z =
 -- ---- the three readers behind them; n is what the code found
 
 module _ (buf : List ℕ) (s e n : ℕ) (is : n ≡ outerRefusal buf s e) where
-  pub opened : n ≡ 0 → Open buf s e
+  pub opened : n ≡ 0 → LetThrough buf s e
   opened z = outer-open buf s e (sym is ∙ z)
 
   pub read-refused : (r : Refusal) → (n ≡ 0 → ⊥) → r ≡ refused n s 0 → Refused r ≡ readPacket buf s e
@@ -186,9 +186,9 @@ pub packet-is : (w : List ℕ) (at : ℕ) (l : Layout) (f : Fields) (p d h x : �
     → record {
       fields = f;
       length = p;
-      datalength = d;
-      headsum = h;
-      datasum = x;
+      «data_length» = d;
+      «header_sum» = h;
+      «data_sum» = x;
       header = partAt at 24;
       secondary = partAt (at + 24) (l .body - 24);
       body = partAt (at + l .body) (l .filler - l .body);
@@ -204,9 +204,9 @@ packet-is w at l f p d h x s m ef ep ed eh ex =
     λ i. record {
       fields = ef i;
       length = ep i;
-      datalength = ed i;
-      headsum = eh i;
-      datasum = (ex ∙ ap (λ (n : ℕ). field w n (sumLength (flagsIn w))) (m .sum)) i;
+      «data_length» = ed i;
+      «header_sum» = eh i;
+      «data_sum» = (ex ∙ ap (λ (n : ℕ). field w n (sumLength (flagsIn w))) (m .sum)) i;
       header = partAt at 24;
       secondary = partAt (at + 24) (e₁ i);
       body = partAt (at + m .body i) (e₂ i);
@@ -235,8 +235,8 @@ unfolding listCounted listAnswer bodyAnswer
 listed-is w at len₁ len₂ (Counted n) = room-same at (bodyAt (flagsIn w)) (min len₁ len₂) n
 listed-is w at len₁ len₂ (Faulty f) = refl
 
-pub after-listed : (at body : ℕ) (x : body-listed.Listed) (f g : ℕ → ℕ) (old : List ℕ) → f ≡ g → Body·listAfter x f old ≡ listAfter (fromListed at body x) g old
-unfolding Body·listAfter listAfter
+pub after-listed : (at body : ℕ) (x : body-listed.Listed) (f g : ℕ → ℕ) (old : List ℕ) → f ≡ g → filledAfter x f old ≡ listAfter (fromListed at body x) g old
+unfolding filledAfter listAfter
 after-listed at body (Count n) f g old e = rw e
 after-listed at body (Body·Unlisted r) f g old e = refl
 after-listed at body (NoRoom n) f g old e = refl
@@ -260,8 +260,8 @@ module _ (w : List ℕ) (at : ℕ) (l : Layout) (m : Measured w l) (rule : TimeR
   -- x is what the body's lister said, in the case y; a is what the code makes of it
   pub list-says : (len₁ len₂ : ℕ) (x y : body-listed.Listed) (a : PacketList) (olds news oldl newl : List ℕ) → x ≡ y → a ≡ fromListed at (l .body) y
       → x ≡ listOf (kindIn w) rule bytes len₁ len₂
-      → news ≡ Body·listAfter x (startsOf (l .body) (messageIn (kindIn w) rule bytes)) olds
-      → newl ≡ Body·listAfter x (lengthsOf (messageIn (kindIn w) rule bytes)) oldl
+      → news ≡ filledAfter x (startsOf (l .body) (messageIn (kindIn w) rule bytes)) olds
+      → newl ≡ filledAfter x (lengthsOf (messageIn (kindIn w) rule bytes)) oldl
       → (a ≡ listAnswer (bodyAnswer (bodyChecked w) w at) at (messageCount w) (min len₁ len₂))
       × (news ≡ listAfter a (starts w) olds)
       × (newl ≡ listAfter a (lengths w) oldl)
@@ -287,23 +287,23 @@ unlisted-faulty kind rule bs len₁ len₂ f e = go (checkBody kind rule bs) ref
 -- ---- one message
 
 -- a message of the body as the packet's
-abbrev pub ahead : ℕ → Message → Message
-ahead body m = record { time = m .time; id = m .id; start = body + m .start; length = m .length }
+abbrev pub inPacket : ℕ → Message → Message
+inPacket body m = record { time = m .time; id = m .id; start = body + m .start; length = m .length }
 
 abbrev pub fromPicked : ℕ → ℕ → Picked → PacketMessage
-fromPicked at body (One m) = Given (ahead body m)
+fromPicked at body (One m) = Given (inPacket body m)
 fromPicked at body (Unread f) = Withheld (fault (at + body + f .place))
 fromPicked at body Missing = Withheld (refused 17 at 0)
 
-number-same : (at body k n : ℕ) (m : Message) → fromPicked at body (pick (ltb k n) (One m) Missing) ≡ pick (leb n k) (Withheld (refused 17 at 0)) (Given (ahead body m))
+number-same : (at body k n : ℕ) (m : Message) → fromPicked at body (pick (ltb k n) (One m) Missing) ≡ pick (leb n k) (Withheld (refused 17 at 0)) (Given (inPacket body m))
 number-same at body k n m = go (decLe n k)
   where
-    go : Dec (n ≤ k) → fromPicked at body (pick (ltb k n) (One m) Missing) ≡ pick (leb n k) (Withheld (refused 17 at 0)) (Given (ahead body m))
+    go : Dec (n ≤ k) → fromPicked at body (pick (ltb k n) (One m) Missing) ≡ pick (leb n k) (Withheld (refused 17 at 0)) (Given (inPacket body m))
     go (yes h) = rw (le-leb n k h, le-ltb k n h)
     go (no h) = rw (lt-leb n k (omega arith), lt-ltb k n (omega arith))
 
 pub picked-is : (w : List ℕ) (at k : ℕ) (m : Message) (c : Checked)
-    → fromPicked at (bodyAt (flagsIn w)) (pickCounted k m c) ≡ messageAnswer (bodyAnswer c w at) at (countOf c) k (ahead (bodyAt (flagsIn w)) m)
+    → fromPicked at (bodyAt (flagsIn w)) (pickCounted k m c) ≡ messageAnswer (bodyAnswer c w at) at (countOf c) k (inPacket (bodyAt (flagsIn w)) m)
 unfolding pickCounted messageAnswer bodyAnswer
 picked-is w at k m (Counted n) = number-same at (bodyAt (flagsIn w)) k n m
 picked-is w at k m (Faulty f) = refl

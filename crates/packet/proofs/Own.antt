@@ -1,4 +1,4 @@
--- Demand 1: what is said of an accepted packet depends on its own bytes alone, and its parts make it up. Assumes nothing.
+-- Demand 1: what is said of an accepted packet depends on its own bytes alone, and its parts make it up.
 use mathlib.Core.Path.{_≡_, refl, sym, ap, _∙_}
 use mathlib.Core.List.{List, _++_}
 use Prim.Native.Nat.{ℕ, _+_, _-_, _≤_, _<_}
@@ -16,9 +16,9 @@ use Rattle.body.specs.declared.Checked.{Checked}
 use Rattle.body.specs.declared.Checked.the-variants.{Counted, Faulty}
 use Rattle.frame.specs.Header.{packetLength, flagsIn, dataLength, unfilledLength}
 use Rattle.frame.specs.Table.{first, frameLines}
-use Rattle.frame.specs.Inner.{Sound}
+use Rattle.frame.specs.inner.Lengths.{Sound}
 use Rattle.frame.proofs.Frames.{flags-front, kind-front, packet-length-front, data-length-front, head-sum-front, filler-at-front, sum-at-front, body-front, data-sum-front, fields-front, frame-front, OfFront, own-bytes}
-use Rattle.packet.proofs.Answers.{outer-inside, Open, outer-open}
+use Rattle.packet.proofs.Answers.{outer-inside, LetThrough, outer-open}
 use Rattle.packet.proofs.Window.{entries-told}
 use Rattle.packet.specs.Read.{window, outerRefusal, packetIn, bodyChecked, bodyAnswer, readPacket, Together}
 use Rattle.packet.specs.Messages.{messageCount, kthMessage, listPacket, starts, lengths, messagePacket, entries}
@@ -32,7 +32,7 @@ refused-accepted r p e = let z : _≡_ {A = ℕ} 0 1 = cc in omega arith
 
 -- a window in its buffer, whose frame and body keep the rules, and the packet there
 pub record AcceptedAt (buf : List ℕ) (s e : ℕ) (p : Packet) : Type 0 where
-  pub opens : Open buf s e
+  pub opens : LetThrough buf s e
   pub count : ℕ
   pub body : bodyChecked (window buf s e) ≡ Counted count
   pub packet : p ≡ packetIn (window buf s e) s
@@ -63,28 +63,26 @@ at-accepted buf s e p a =
     let z : outerRefusal buf s e ≡ 0 = sym (outer-inside buf s e 0 (o .ordered) (o .within) (sym (o .framed))) in
     rw (z, a .body, a .packet)
 
-length-of : (w : List ℕ) (at : ℕ) → packetIn w at .length ≡ packetLength w
+packet-in-length : (w : List ℕ) (at : ℕ) → packetIn w at .length ≡ packetLength w
 unfolding packetIn
-length-of w at = refl
+packet-in-length w at = refl
 
 pub accepted-length : (buf : List ℕ) (s e : ℕ) (p : Packet) → AcceptedAt buf s e p → p .length ≡ packetLength (window buf s e)
-accepted-length buf s e p at = ap (λ (q : Packet). q .length) (at .packet) ∙ length-of (window buf s e) s
+accepted-length buf s e p at = ap (λ (q : Packet). q .length) (at .packet) ∙ packet-in-length (window buf s e) s
 
 -- an accepted packet is longer than its header, and all of it stands in its window
-pub record Fits (s e n : ℕ) : Type 0 where
+pub record AcceptedFits (s e n : ℕ) : Type 0 where
   pub some : 24 < n
   pub within : s + n ≤ e
-  pub small : n ≤ 134217728
 
-pub fits : (buf : List ℕ) (s e : ℕ) (p : Packet) → readPacket buf s e ≡ Accepted p → Fits s e (p .length)
-fits buf s e p h =
+pub accepted-fits : (buf : List ℕ) (s e : ℕ) (p : Packet) → readPacket buf s e ≡ Accepted p → AcceptedFits s e (p .length)
+accepted-fits buf s e p h =
     let a = accepted-at buf s e p h in
     let w = a .opens .sound in
     let l = accepted-length buf s e p a in
     record {
       some = omega (arith, l, w .parts, w .some);
       within = omega (arith, l, w .there, a .opens .reach);
-      small = omega (arith, l, w .capped);
     }
 
 -- ---- what is said of a packet whatever stands behind it
@@ -123,7 +121,7 @@ module _ (a b : List ℕ) (s e f : ℕ) (p : Packet) (h : readPacket a s e ≡ A
   own : {A : Type 0} (said : List ℕ → A) → OfFront said → said (window b s f) ≡ said (window a s e)
   own said front =
       let at = accepted-at a s e p h in
-      let k = fits a s e p h in
+      let k = accepted-fits a s e p h in
       let w = window a s e in
       let u = window b s f in
       let l = accepted-length a s e p at in

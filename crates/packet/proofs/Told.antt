@@ -1,4 +1,4 @@
--- Demand 1: each call ends with what was asked for, told as 0, or with one refusal from the table. Assumes nothing.
+-- Demand 1: each call ends with what was asked for, told as 0, or with one refusal from the table.
 use mathlib.Core.Path.{_≡_, refl, sym, ap, _∙_}
 use mathlib.Core.List.{List, [], _∷_}
 use mathlib.Core.Bool.{Bool, true, false, not}
@@ -18,7 +18,7 @@ use Rattle.frame.specs.declared.Fields.{Fields}
 use Rattle.frame.specs.Header.{lengthFor}
 use Rattle.frame.specs.Rules.{messageRule}
 use Rattle.frame.specs.Table.{Line, line, first, headLines, valueLines, wholeLines, secondaryLines, trailerLines, frameLines}
-use Rattle.packet.specs.Read.{window, outerLines, outerRefusal, bodyChecked, bodyAnswer, readPacket, told}
+use Rattle.packet.specs.Read.{window, outerLines, outerRefusal, bodyChecked, bodyAnswer, readPacket, packetTold}
 use Rattle.packet.specs.Messages.{messageCount, kthMessage, listAnswer, listPacket, listTold, messageAnswer, messagePacket, messageTold}
 use Rattle.packet.specs.Write.{writerLines, writerRefusal, fitted, writePacket, writeTold}
 use Rattle.packet.specs.declared.PacketRead.{PacketRead}
@@ -74,7 +74,7 @@ writer-top f d =
 
 -- what a reading told as 0 is
 abbrev IsPacket : PacketRead → Type 0
-IsPacket x = told x .refusal .number ≡ 0 → x ≡ Accepted (told x .packet)
+IsPacket x = packetTold x .refusal .number ≡ 0 → x ≡ Accepted (packetTold x .packet)
 
 body-packet : (c : Checked) (w : List ℕ) (at : ℕ) → IsPacket (bodyAnswer c w at)
 unfolding bodyAnswer
@@ -85,23 +85,23 @@ outer-packet : (n at : ℕ) (rest : PacketRead) (t : Bool) → eqb n 0 ≡ t →
 outer-packet n at rest true q next e = next e
 outer-packet n at rest false q next e = absurd (eqb-false n 0 q e)
 
-pub read-told : (buf : List ℕ) (s e : ℕ) → told (readPacket buf s e) .refusal .number ≡ 0 → readPacket buf s e ≡ Accepted (told (readPacket buf s e) .packet)
+pub read-told : (buf : List ℕ) (s e : ℕ) → packetTold (readPacket buf s e) .refusal .number ≡ 0 → readPacket buf s e ≡ Accepted (packetTold (readPacket buf s e) .packet)
 unfolding readPacket
 read-told buf s e =
     let w = window buf s e in
     outer-packet (outerRefusal buf s e) s (bodyAnswer (bodyChecked w) w s) (eqb (outerRefusal buf s e) 0) refl (body-packet (bodyChecked w) w s)
 
-body-top : (c : Checked) (w : List ℕ) (at : ℕ) → told (bodyAnswer c w at) .refusal .number ≤ 15
+body-top : (c : Checked) (w : List ℕ) (at : ℕ) → packetTold (bodyAnswer c w at) .refusal .number ≤ 15
 unfolding bodyAnswer
 body-top (Counted n) w at = omega arith
 body-top (Faulty f) w at = omega arith
 
-pub read-numbered : (buf : List ℕ) (s e : ℕ) → told (readPacket buf s e) .refusal .number ≤ 15
+pub read-numbered : (buf : List ℕ) (s e : ℕ) → packetTold (readPacket buf s e) .refusal .number ≤ 15
 unfolding readPacket
 read-numbered buf s e = go (not (eqb (outerRefusal buf s e) 0))
   where
     go : (t : Bool)
-        → told (pick t (Refused (refused (outerRefusal buf s e) s 0)) (bodyAnswer (bodyChecked (window buf s e)) (window buf s e) s)) .refusal .number ≤ 15
+        → packetTold (pick t (Refused (refused (outerRefusal buf s e) s 0)) (bodyAnswer (bodyChecked (window buf s e)) (window buf s e) s)) .refusal .number ≤ 15
     go true = omega (arith, outer-top buf s e)
     go false = body-top (bodyChecked (window buf s e)) (window buf s e) s
 
@@ -111,12 +111,12 @@ module _ (buf : List ℕ) (s e : ℕ) where
   -- a refusal of the reader has a number
   refusal-numbered : {X : Type 0} (r : Refusal) → readPacket buf s e ≡ Refused r → r .number ≡ 0 → X
   refusal-numbered r q z =
-      let p = read-told buf s e (ap (λ (x : PacketRead). told x .refusal .number) q ∙ z) in
+      let p = read-told buf s e (ap (λ (x : PacketRead). packetTold x .refusal .number) q ∙ z) in
       let contrary : _≡_ {A = ℕ} 0 1 = cc (sym q ∙ p) in
       absurd (omega arith)
 
   refusal-top : (r : Refusal) → readPacket buf s e ≡ Refused r → r .number ≤ 15
-  refusal-top r q = omega (arith, ap (λ (x : PacketRead). told x .refusal .number) q, read-numbered buf s e)
+  refusal-top r q = omega (arith, ap (λ (x : PacketRead). packetTold x .refusal .number) q, read-numbered buf s e)
 
   -- one more test behind the reader's: 16 with n as room, or the count n
   list-room : (t : Bool) (n : ℕ) → listTold (pick t (Unlisted (refused 16 s n)) (Listed n)) .refusal .number ≡ 0

@@ -1,4 +1,4 @@
--- Demand 1: nothing outside the window changes an answer, nor the entries of the lists. Assumes nothing.
+-- Demand 1: nothing outside the window changes an answer, nor the entries of the lists.
 use mathlib.Core.Path.{_≡_, refl, _∙_, sym}
 use mathlib.Core.List.{List}
 use mathlib.Core.Bool.{Bool, true, false}

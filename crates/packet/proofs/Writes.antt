@@ -1,4 +1,4 @@
--- What the writer says, from what the functions below it say. Assumes nothing.
+-- What the writer says, from what the functions below it say.
 use mathlib.Core.Path.{_≡_, refl, sym, ap, _∙_}
 use mathlib.Core.List.{List, [], _∷_}
 use mathlib.Core.Bool.{Bool, true, false}

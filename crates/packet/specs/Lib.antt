@@ -1,4 +1,4 @@
 pub mod Read
 pub mod Messages
 pub mod Write
-pub mod Inner
+pub mod inner

@@ -49,9 +49,9 @@ packetIn w at =
     record {
       fields = fieldsIn w;
       length = packetLength w;
-      datalength = dataLength w;
-      headsum = headerSumIn w;
-      datasum = dataSumIn w;
+      «data_length» = dataLength w;
+      «header_sum» = headerSumIn w;
+      «data_sum» = dataSumIn w;
       header = partAt at 24;
       secondary = partAt (at + 24) (secondaryLength (flagsIn w));
       body = partAt (at + bodyAt (flagsIn w)) (dataLength w);
@@ -100,9 +100,9 @@ noPacket =
     record {
       fields = record { channel = 0; version = 0; sequence = 0; flags = 0; kind = 0; rtc = 0; time = 0 };
       length = 0;
-      datalength = 0;
-      headsum = 0;
-      datasum = 0;
+      «data_length» = 0;
+      «header_sum» = 0;
+      «data_sum» = 0;
       header = noPart;
       secondary = noPart;
       body = noPart;
@@ -110,11 +110,11 @@ noPacket =
       sum = noPart;
     }
 
-pub record Told : Type 0 where
+pub record PacketTold : Type 0 where
   pub refusal : Refusal
   pub packet : Packet
 
 -- a refusal returns its number and place; all other results are zero
-abbrev pub told : PacketRead → Told
-told (Accepted p) = record { refusal = noRefusal; packet = p }
-told (Refused r) = record { refusal = r; packet = noPacket }
+abbrev pub packetTold : PacketRead → PacketTold
+packetTold (Accepted p) = record { refusal = noRefusal; packet = p }
+packetTold (Refused r) = record { refusal = r; packet = noPacket }

@@ -2,9 +2,9 @@
 ghost use mathlib.Core.Path.{_≡_};
 ghost use Prim.Native.Nat.{_+_, _^_, _<_, min};
 ghost use lib.ListN.{length};
-ghost use Rattle.frame.specs.Inner.{Sound};
+ghost use Rattle.frame.specs.inner.Lengths.{Sound};
 ghost use Rattle.packet.specs.Read.{outerRefusal, packetIn, bodyChecked, bodyAnswer};
-ghost use Rattle.packet.specs.Inner.{passOf};
+ghost use Rattle.packet.specs.inner.Passes.{passOf};
 ghost use Rattle.packet.specs.Messages.{messageCount, kthMessage, listAnswer, listAfter, starts as Messages·starts, lengths as Messages·lengths, messageAnswer};
 use crate::Packet;
 use crate::PacketList;
@@ -86,9 +86,9 @@ fn packet_in(w: &[u8], at: usize) -> Packet
     Packet {
         fields: fields_in(w),
         length,
-        datalength: read32(w, 8),
-        headsum: read16(w, 22),
-        datasum: read_sum(w, sum, w[14] % 4),
+        data_length: read32(w, 8),
+        header_sum: read16(w, 22),
+        data_sum: read_sum(w, sum, w[14] % 4),
         header: Part { at, length: 24 },
         secondary: Part {
             at: at + 24,

@@ -4,7 +4,7 @@ ghost use mathlib.Core.Path.{_≡_};
 ghost use lib.ListN.{length};
 ghost use Prim.Native.Nat.{_≤_};
 ghost use Rattle.packet.specs.Read.{window, readPacket};
-ghost use Rattle.packet.specs.Inner.{passOf};
+ghost use Rattle.packet.specs.inner.Passes.{passOf};
 ghost use Rattle.packet.specs.Messages.{listPacket, listAfter, starts as Messages·starts, lengths as Messages·lengths, messagePacket};
 ghost use Rattle.packet_bytes.specs.Bytes.{packetBytes};
 ghost use Rattle.packet.specs.Write.{writePacket, outAfter};
@@ -38,9 +38,9 @@ pub struct Part {
 pub struct Packet {
     pub fields: Fields,
     pub length: u32,
-    pub datalength: u32,
-    pub headsum: u16,
-    pub datasum: u32,
+    pub data_length: u32,
+    pub header_sum: u16,
+    pub data_sum: u32,
     pub header: Part,
     pub secondary: Part,
     pub body: Part,

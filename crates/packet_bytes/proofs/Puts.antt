@@ -1,4 +1,4 @@
--- Laws of the bytes that are put down: b₀, b₁, .. is the output before and after each write. Assumes nothing.
+-- Laws of the bytes that are put down: b₀, b₁, .. is the output before and after each write.
 use mathlib.Core.Path.{_≡_, refl, sym, ap, _∙_}
 use mathlib.Core.List.{List, [], _∷_, _++_, append-assoc}
 use mathlib.Core.Bool.{Bool, true, false}

@@ -1,4 +1,4 @@
--- An accepted packet is one that the writer accepts, and written again it has the same bytes. Assumes nothing.
+-- An accepted packet is one that the writer accepts, and written again it has the same bytes.
 use mathlib.Core.Path.{_≡_, refl, sym, ap, subst, _∙_}
 use mathlib.Core.List.{List, [], _∷_, _++_}
 use mathlib.Core.Bool.{Bool, true, false, _||_}
@@ -18,7 +18,7 @@ use Rattle.units.proofs.Choices.{and-true}
 use Rattle.body.specs.declared.Checked.the-variants.{Counted}
 use Rattle.frame.specs.Header.{byte, sync, packetLength, dataLength, flagsIn, kindIn, secondaryBit, secondaryLength, sumCode, sumLength, bodyAt, fillerFor, lengthFor, fillerAt, sumAt, fillerLength, secondaryIn, bodyIn, fillerIn, bodyAndFillerIn, dataSumIn, timeIn, reservedIn, fieldsIn}
 use Rattle.frame.specs.Rules.{secondaryTimeOk}
-use Rattle.frame.specs.Inner.{Sound}
+use Rattle.frame.specs.inner.Lengths.{Sound}
 use Rattle.frame.proofs.Frames.{Framed, framed-says, framed-passes, frame-sound, length-is}
 use Rattle.packet_bytes.specs.Bytes.{headWords, headBytes, secondaryWords, secondaryBytes, bodyAndFillerBytes, dataBytes, packetBytes}
 use Rattle.packet.specs.Read.{window, packetIn, bodyChecked, readPacket}
@@ -26,7 +26,7 @@ use Rattle.packet.specs.declared.Packet.{Packet}
 use Rattle.packet.specs.declared.PacketRead.the-variants.{Accepted}
 use Rattle.packet.proofs.Own.{accepted-at, accepted-length}
 use Rattle.promises.specs.Contents.{Contents, Typed, packetOf, Accepts, contentsOf}
-use Rattle.promises.proofs.Writer.{lengthIn, Right, right-accepts}
+use Rattle.promises.proofs.Writer.{lengthIn, Writable, writable-accepts}
 
 -- the contents of the packet at the start of a window's bytes w
 abbrev pub contentsIn : List ℕ → Contents
@@ -184,7 +184,7 @@ module _ (w : List ℕ) (b : Bytes w) (f : Framed w) where
       }
 
   -- and where its body keeps its rules, the writer has nothing against it
-  pub again-right : (n : ℕ) → bodyChecked w ≡ Counted n → Right (contentsIn w)
+  pub again-right : (n : ℕ) → bodyChecked w ≡ Counted n → Writable (contentsIn w)
   unfolding fieldsIn bodyChecked
   again-right n q =
       record {
@@ -221,6 +221,6 @@ read-again buf s e p b h =
     let n = accepted-length buf s e p a in
     let t : take (packetLength w) w ≡ part buf s (packetLength w) =
     take-take (packetLength w) (e - s) (drop s buf) (omega (arith, k .there, a .opens .reach)) in (
-      subst Accepts (sym c) (right-accepts (contentsIn w) (again-typed w bw f) (again-right w bw f (a .count) (a .body))),
+      subst Accepts (sym c) (writable-accepts (contentsIn w) (again-typed w bw f) (again-right w bw f (a .count) (a .body))),
       ap packetOf c ∙ again-bytes w bw f ∙ t ∙ ap (part buf s) (sym n),
     )

@@ -1,5 +1,5 @@
 -- A packet that the writer accepts, altered in a single unit, is refused with the number that names it, whatever stands behind it;
--- and no byte that the demand speaks of is in none of the units. Assumes nothing.
+-- and no byte that the demand speaks of is in none of the units.
 use mathlib.Core.Path.{_≡_, refl, sym, ap, subst, _∙_}
 use mathlib.Core.List.{List, _++_, append-assoc}
 use mathlib.Core.Logic.{_⊎_, inl, inr, ⊎-elim, _≢_}
@@ -18,7 +18,7 @@ use Rattle.frame.specs.Table.{first, frameLines}
 use Rattle.frame.proofs.Frames.{Framed, framed-says, framed-passes, flags-front, packet-length-front, frame-front, OfFront}
 use Rattle.promises.specs.Contents.{Contents, Typed, packetOf, Accepts}
 use Rattle.promises.specs.Altered.{flagsOf, UnitOf, sync, primary, secondary, trailer, AlteredAt, Altered}
-use Rattle.promises.proofs.Writer.{lengthIn, length-of, accepts-right}
+use Rattle.promises.proofs.Writer.{lengthIn, length-of, accepts-writable}
 use Rattle.promises.proofs.Written.{written-bytes, written-length, written-fields, written-framed, written-sound}
 use Rattle.promises.proofs.Spoilt.{sync-refused, primary-refused, secondary-refused, trailer-refused}
 
@@ -89,19 +89,19 @@ module _ (c : Contents) (a : Accepts c) (rest : List ℕ) where
   -- what is said of the packet alone
   front : {A : Type 0} (said : List ℕ → A) → OfFront said → said whole ≡ said (packetOf c)
   front said law =
-      let s = written-sound c (a .typed) (accepts-right c a) in
+      let s = written-sound c (a .typed) (accepts-writable c a) in
       law (packetOf c) rest (s .header) (s .there) (s .parts)
 
   length-in : packetLength whole ≡ length (packetOf c)
-  length-in = front packetLength packet-length-front ∙ written-length c (a .typed) (accepts-right c a) ∙ sym (length-of c)
+  length-in = front packetLength packet-length-front ∙ written-length c (a .typed) (accepts-writable c a) ∙ sym (length-of c)
 
   flags-in : flagsIn whole ≡ flagsOf c
   unfolding fieldsIn
-  flags-in = front flagsIn flags-front ∙ ap (λ (f : Fields). f .flags) (written-fields c (a .typed) (accepts-right c a))
+  flags-in = front flagsIn flags-front ∙ ap (λ (f : Fields). f .flags) (written-fields c (a .typed) (accepts-writable c a))
 
   framed-in : Framed whole
   framed-in =
-      framed-says whole (ap first (front frameLines frame-front) ∙ framed-passes (packetOf c) (written-framed c (a .typed) (accepts-right c a)))
+      framed-says whole (ap first (front frameLines frame-front) ∙ framed-passes (packetOf c) (written-framed c (a .typed) (accepts-writable c a)))
 
   bytes-in : Bytes (take (packetLength whole) whole)
   bytes-in = rw (length-in, take-at (packetOf c) rest (length (packetOf c)) refl) (written-bytes c (a .typed))

@@ -1,4 +1,4 @@
--- The reader's tests of an opened body say what document 01 says of it. Assumes nothing.
+-- The reader's tests of an opened body say what document 01 says of it.
 use mathlib.Core.Path.{_≡_, refl, sym, ap, _∙_}
 use mathlib.Core.List.{List, [], _∷_}
 use mathlib.Core.Bool.{Bool, true, false, not, _&&_, false≢true}
@@ -148,10 +148,10 @@ counter-made (suc (suc f)) counter n some c =
       rw t₀ (o .1),
     )
 
-message-says : (rule : TimeRule) (word n : ℕ) (sh : Shape) → messageShape rule word ≡ Shaped sh → (sh .counted ≡ true → n ≡ sh .count)
+message-word-says : (rule : TimeRule) (word n : ℕ) (sh : Shape) → messageShape rule word ≡ Shaped sh → (sh .counted ≡ true → n ≡ sh .count)
     → (sh .stamped ≡ true) × MessageWord word n
 unfolding messageShape
-message-says rule word n sh e counted =
+message-word-says rule word n sh e counted =
     let count = pick (eqb (word / 2 ^ 16) 0) (word % 2 ^ 16) 1 in
     let as-is : Shape = record { stamped = true; counted = true; count = count; rule = rule } in
     let p =
@@ -230,7 +230,7 @@ body-says kind flags bs es b =
       stamped = b .shape .stamped;
       long = o .0;
       some = b .some;
-      message = λ e. message-says rule word (length es) (b .shape) (ap judged (sym e) ∙ o .1) (b .counted);
+      message = λ e. message-word-says rule word (length es) (b .shape) (ap judged (sym e) ∙ o .1) (b .counted);
       uart = λ e. uart-says rule word (b .shape) (ap judged (sym e) ∙ o .1);
       is = b .is;
       blocks = blocks-say flags (b .shape .stamped) es (b .fit);

@@ -1,7 +1,7 @@
--- The builder's steps answer as document 01 says: each of the builder's tests says what its words say. Assumes nothing.
+-- The builder's steps answer as document 01 says: each of the builder's tests says what its words say.
 use mathlib.Core.Path.{_≡_, refl}
 use mathlib.Core.Bool.{Bool, true, false, _&&_, _||_}
-use mathlib.Core.Logic.{_⊎_, inl, inr, ⊎-elim}
+use mathlib.Core.Logic.{inl, inr, ⊎-elim}
 use Prim.Native.Nat.{ℕ, zero, suc, _%_, _^_, _<_}
 use native.Mathlib.Omega.{arith}
 use native.Mathlib.Nat.{mod-eq-of-lt}
@@ -10,7 +10,7 @@ use borrow.Author.Tests.{eqb-true, eq-eqb, ne-eqb, ltb-true, lt-ltb, le-ltb, lt-
 use Rattle.units.proofs.Choices.{or-true, and-true}
 use Rattle.body.specs.Times.{timeOk, ruleOf}
 use Rattle.body.specs.Walk.{stampLength}
-use Rattle.builder.specs.Build.{stamped, counts, makes, badDraft, openStep, badBlock, badTime, strayTime, grown, added, addStep, closeStep}
+use Rattle.builder.specs.Build.{stamped, counts, makes, badDraft, openStep, badBlock, badTime, strayTime, grown, draftAdded, addStep, closeStep}
 use Rattle.builder.specs.declared.Draft.{Draft}
 use Rattle.builder.proofs.Drafts.{draft-facts, draft-good, block-facts}
 use Rattle.promises.specs.Building.{Opens, SoundDraft, Takes, InForm, grownTo, Building}
@@ -18,9 +18,9 @@ use Rattle.promises.specs.Building.{Opens, SoundDraft, Takes, InForm, gr
 -- ---- a test by what it says: from the test to document 01's words (says), and back (made)
 
 -- false says A: where A does not hold, the test is true; and the same with true
-broken : {A : Type 0} (t : Bool) → (t ≡ false → A) → ¬ A → t ≡ true
-broken true f n = refl
-broken false f n = absurd (n (f refl))
+refuted : {A : Type 0} (t : Bool) → (t ≡ false → A) → ¬ A → t ≡ true
+refuted true f n = refl
+refuted false f n = absurd (n (f refl))
 
 unmet : {A : Type 0} (t : Bool) → (t ≡ true → A) → ¬ A → t ≡ false
 unmet true f n = absurd (n (f refl))
@@ -64,34 +64,34 @@ block-made d n t = rw (ne-eqb n 0 (λ z. omega (arith, t .some)), le-ltb 65535 n
     go false e = refl
 
 -- 15
-time-says : (rule time : ℕ) → timeOk (ruleOf rule) time ≡ true → InForm rule time
+form-says : (rule time : ℕ) → timeOk (ruleOf rule) time ≡ true → InForm rule time
 unfolding timeOk ruleOf
-time-says rule time t =
+form-says rule time t =
     record {
       counter = λ e. ltb-true time (2 ^ 48) (rw e at t);
       chapter4 = λ e. eqb-true (time % 2 ^ 16) 0 (rw e at t);
       ieee1588 = λ e. ltb-true (time % 2 ^ 32) 1000000000 (rw e at t);
     }
 
-time-made : (rule time : ℕ) → InForm rule time → timeOk (ruleOf rule) time ≡ true
+form-made : (rule time : ℕ) → InForm rule time → timeOk (ruleOf rule) time ≡ true
 unfolding timeOk ruleOf
-time-made zero time f = refl
-time-made (suc zero) time f = lt-ltb time (2 ^ 48) (f .counter refl)
-time-made (suc (suc zero)) time f = eq-eqb (time % 2 ^ 16) 0 (f .chapter4 refl)
-time-made (suc (suc (suc zero))) time f = lt-ltb (time % 2 ^ 32) 1000000000 (f .ieee1588 refl)
-time-made (suc (suc (suc (suc n)))) time f =
+form-made zero time f = refl
+form-made (suc zero) time f = lt-ltb time (2 ^ 48) (f .counter refl)
+form-made (suc (suc zero)) time f = eq-eqb (time % 2 ^ 16) 0 (f .chapter4 refl)
+form-made (suc (suc (suc zero))) time f = lt-ltb (time % 2 ^ 32) 1000000000 (f .ieee1588 refl)
+form-made (suc (suc (suc (suc n)))) time f =
     let m = suc (suc (suc (suc n))) in
     rw (ne-eqb m 1 (λ e. omega arith), ne-eqb m 2 (λ e. omega arith), ne-eqb m 3 (λ e. omega arith))
 
 time-passes : (rule time : ℕ) → InForm rule time → badTime rule time ≡ false
-time-passes rule time f = rw (time-made rule time f) (go (stamped rule))
+time-passes rule time f = rw (form-made rule time f) (go (stamped rule))
   where
     go : (b : Bool) → (b && false) ≡ false
     go true = refl
     go false = refl
 
 time-broken : (rule time : ℕ) → 0 < rule → ¬ InForm rule time → badTime rule time ≡ true
-time-broken rule time some n = rw (lt-ltb 0 rule some, unmet (timeOk (ruleOf rule) time) (time-says rule time) n)
+time-broken rule time some n = rw (lt-ltb 0 rule some, unmet (timeOk (ruleOf rule) time) (form-says rule time) n)
 
 -- 17 for a time where none is stored
 stray-passes : (rule time : ℕ) → (rule ≡ 0 → time ≡ 0) → strayTime rule time ≡ false
@@ -101,14 +101,14 @@ stray-passes (suc rule) time none = rw (lt-ltb 0 (suc rule) (omega arith))
 -- ---- the steps
 
 pub building : Building
-unfolding openStep addStep closeStep added grown stampLength
+unfolding openStep addStep closeStep draftAdded grown stampLength
 building =
     record {
       open-17 = λ d kind rule len n. rw (unmet (makes kind rule) (makes-says kind rule) n);
       open-16 = λ d kind rule len o short. rw (makes-made kind rule o, lt-ltb len 4 short);
       opens = λ d kind rule len o room. rw (makes-made kind rule o, le-ltb len 4 room);
-      add-1 = λ d len time n u. rw (broken (badDraft d len) (draft-says d len) u);
-      add-17 = λ d len time n s u. rw (draft-made d len s, broken (badBlock d n) (block-says d n) u);
+      add-1 = λ d len time n u. rw (refuted (badDraft d len) (draft-says d len) u);
+      add-17 = λ d len time n s u. rw (draft-made d len s, refuted (badBlock d n) (block-says d n) u);
       add-15 = λ d len time n s t some u. rw (draft-made d len s, block-made d n t, time-broken (d .rule) time some u);
       add-stray = λ d len time n s t none stray. rw (draft-made d len s, block-made d n t, none, ne-eqb time 0 stray);
       add-16 =
@@ -124,7 +124,7 @@ building =
             le-ltb len (grownTo d n) room,
             mod-eq-of-lt fits,
           );
-      close-1 = λ d len u. rw (broken (badDraft d len) (draft-says d len) u);
+      close-1 = λ d len u. rw (refuted (badDraft d len) (draft-says d len) u);
       close-15 = λ d len s e. rw (draft-made d len s, eq-eqb (d .used) 4 e);
       closes = λ d len s e. rw (draft-made d len s, ne-eqb (d .used) 4 e);
     }

@@ -1,4 +1,4 @@
--- Demand 1 holds. Assumes nothing.
+-- Demand 1 holds.
 use mathlib.Core.Path.{_≡_, refl, sym, ap, _∙_}
 use mathlib.Core.List.{List}
 use mathlib.Core.Logic.{inl, inr, ⊎-elim, _≢_}
@@ -6,10 +6,10 @@ use Prim.Native.Nat.{ℕ, _+_, _≤_}
 use native.Mathlib.Omega.{arith}
 use lib.ListN.{length}
 use Rattle.units.specs.Units.{part}
-use Rattle.builder.specs.Build.{bufAfter, told as Builder·told}
+use Rattle.builder.specs.Build.{bufAfter, stepTold}
 use Rattle.builder.specs.declared.Step.{Step}
 use Rattle.builder.specs.declared.Step.the-variants.{Done, Denied}
-use Rattle.packet.specs.Read.{window, readPacket, noRefusal, told}
+use Rattle.packet.specs.Read.{window, readPacket, noRefusal, packetTold}
 use Rattle.packet.specs.Messages.{listPacket, listAfter, starts, lengths, listTold, messageTold}
 use Rattle.packet.specs.Write.{outAfter, writeTold}
 use Rattle.packet.specs.declared.Packet.{Packet}
@@ -32,7 +32,7 @@ module _ (a b : List ℕ) (start end : ℕ) (in-a : end ≤ length a) (in-b : en
   outside : Alike start a end b end
   outside =
       record {
-        read = ap told (read-window a b start end in-a in-b same);
+        read = ap packetTold (read-window a b start end in-a in-b same);
         list = λ m n. ap listTold (list-window a b start end in-a in-b same m n);
         starts-told = λ m n old old′. entries-window a b start end in-a in-b same m n old old′ .0;
         lengths-told = λ m n old old′. entries-window a b start end in-a in-b same m n old old′ .1;
@@ -45,12 +45,12 @@ module _ (a b : List ℕ) (start end : ℕ) (in-a : end ≤ length a) (in-b : en
       hands-out-once a start end _ ps h .1 ∙ ap (λ (r : Reading). r .packets) (reading-window a b start end in-a in-b same) in
       rw e (hands-out b start end)
 
-behind : (a b : List ℕ) (start end end′ : ℕ) (p : Packet) → told (readPacket a start end) ≡ readTold noRefusal p
+own-behind : (a b : List ℕ) (start end end′ : ℕ) (p : Packet) → packetTold (readPacket a start end) ≡ readTold noRefusal p
     → start + p .length ≤ end′ → end′ ≤ length b → part a start (p .length) ≡ part b start (p .length) → Alike start a end b end′
-behind a b start end end′ p is reaches in-b same =
+own-behind a b start end end′ p is reaches in-b same =
     let accepted = accepted-is a start end p is in
     record {
-      read = is ∙ ap told (sym (own-read a b start end end′ p accepted reaches in-b same));
+      read = is ∙ ap packetTold (sym (own-read a b start end end′ p accepted reaches in-b same));
       list = λ m n. ap listTold (own-list a b start end end′ p accepted reaches in-b same m n);
       starts-told = λ m n old old′. own-entries a b start end end′ p accepted reaches in-b same m n old old′ .0;
       lengths-told = λ m n old old′. own-entries a b start end end′ p accepted reaches in-b same m n old old′ .1;
@@ -59,10 +59,10 @@ behind a b start end end′ p is reaches in-b same =
 
 -- ---- lent memory
 
-kept : (buf : List ℕ) (start end : ℕ) (starts₀ lengths₀ : List ℕ)
+both-kept : (buf : List ℕ) (start end : ℕ) (starts₀ lengths₀ : List ℕ)
     → ListKept (listPacket buf start end (length starts₀) (length lengths₀)) (starts (window buf start end)) starts₀
     × ListKept (listPacket buf start end (length starts₀) (length lengths₀)) (lengths (window buf start end)) lengths₀
-kept buf start end starts₀ lengths₀ =
+both-kept buf start end starts₀ lengths₀ =
     let r = listPacket buf start end (length starts₀) (length lengths₀) in
     let w = window buf start end in
     let fits = count-fits buf start end (length starts₀) (length lengths₀) in (
@@ -80,7 +80,7 @@ unfolding outAfter
 output-same (Written n) h old bytes = absurd (h refl)
 output-same (Unwritten r) h old bytes = refl
 
-buffer-same : (r : Step) → Builder·told r .number ≢ 0 → (old : List ℕ) (at : ℕ) (bytes : List ℕ) → bufAfter r old at bytes ≡ old
+buffer-same : (r : Step) → stepTold r .number ≢ 0 → (old : List ℕ) (at : ℕ) (bytes : List ℕ) → bufAfter r old at bytes ≡ old
 unfolding bufAfter
 buffer-same (Done d) h old at bytes = absurd (h refl)
 buffer-same (Denied r d) h old at bytes = refl
@@ -97,8 +97,8 @@ demand-1 =
       nothing-outside = outside;
       nothing-outside-recording = recording-window;
       nothing-outside-handed = handed-alike;
-      nothing-behind = behind;
-      lists-kept = kept;
+      nothing-behind = own-behind;
+      lists-kept = both-kept;
       lists-untouched = lists-same;
       output-untouched = output-same;
       buffer-untouched = buffer-same;

@@ -1,4 +1,4 @@
--- Demand 2 holds. Assumes nothing.
+-- Demand 2 holds.
 use mathlib.Core.Path.{_≡_, refl, sym, ap, subst, _∙_}
 use mathlib.Core.Bool.{Bool}
 use mathlib.Core.List.{List, _++_}
@@ -12,18 +12,18 @@ use Rattle.units.proofs.Parts.{length-part, part-add, field-add}
 use Rattle.frame.specs.Header.{flagsIn, kindIn, bodyIn, fieldsIn}
 use Rattle.frame.proofs.Stages.{the-time, no-time}
 use Rattle.body.specs.Walk.{opens}
-use Rattle.packet.specs.Read.{window, packetIn, readPacket, Together, noRefusal, told}
+use Rattle.packet.specs.Read.{window, packetIn, readPacket, Together, noRefusal, packetTold}
 use Rattle.packet.specs.Write.{writePacket, outAfter, WriteTold, writeTold}
 use Rattle.packet.specs.declared.Packet.{Packet}
 use Rattle.packet.specs.declared.PacketWrite.{PacketWrite}
 use Rattle.packet.specs.declared.PacketWrite.the-variants.{Written}
-use Rattle.packet.proofs.Own.{accepted-at, fits, together}
+use Rattle.packet.proofs.Own.{accepted-at, accepted-fits, together}
 use Rattle.promises.specs.Contents.{Contents, Typed, packetOf, outputOf, contentsOf}
 use Rattle.promises.specs.Endings.{readTold, writtenTold}
 use Rattle.promises.specs.Reports.{PacketThere, Reports}
 use Rattle.promises.specs.Demand2.{bytesIn, Demand2}
 use Rattle.promises.proofs.Ends.{accepted-is}
-use Rattle.promises.proofs.Writer.{lengthIn, Right, written-says, right-written, right-accepts, accepts-right, length-of}
+use Rattle.promises.proofs.Writer.{lengthIn, Writable, written-says, writable-written, writable-accepts, accepts-writable, length-of}
 use Rattle.promises.proofs.Written.{read-written}
 use Rattle.promises.proofs.Again.{read-again}
 use Rattle.promises.proofs.BodiesKept.{opens-exactly, body-kept, kept-stamped}
@@ -56,22 +56,22 @@ five-parts buf start p t =
       t .header,
     )
 
-packet-is : (w : List ℕ) (at : ℕ) → PacketThere w at (packetIn w at)
+packet-there-is : (w : List ℕ) (at : ℕ) → PacketThere w at (packetIn w at)
 unfolding packetIn fieldsIn
-packet-is w at =
+packet-there-is w at =
     record {
       channel = refl;
       long = refl;
-      datalength = refl;
+      «data_length» = refl;
       version = refl;
       sequence = refl;
       flags = refl;
       kind = refl;
       rtc = refl;
-      headsum = refl;
+      «header_sum» = refl;
       time = λ e. sym (the-time w _ e refl) ∙ field-add w 24 4 4;
       no-time = λ e. sym (no-time w e);
-      datasum = refl;
+      «data_sum» = refl;
       header = refl;
       secondary = refl;
       body = refl;
@@ -87,25 +87,25 @@ unfolding outAfter
 output-begins c out = take-at (packetOf c) _ (lengthIn c) (length-of c)
 
 -- contents that the rules have nothing against, into an output with room
-writes : (c : Contents) (out : List ℕ) → Right c → lengthIn c ≤ length out
+writes : (c : Contents) (out : List ℕ) → Writable c → lengthIn c ≤ length out
     → (writeTold (writePacket (c .fields) (c .body) (length out)) ≡ writtenTold noRefusal (lengthIn c)) × (take (lengthIn c) (outputOf c out) ≡ packetOf c)
 writes c out r room =
-    let w = right-written c (length out) r room in
+    let w = writable-written c (length out) r room in
     (ap writeTold w, ap (λ (x : PacketWrite). take (lengthIn c) (outAfter x out (packetOf c))) w ∙ output-begins c out)
 
 reads-back : (c : Contents) → Typed c → (out : List ℕ) (n : ℕ) → writeTold (writePacket (c .fields) (c .body) (length out)) ≡ writtenTold noRefusal n
     → (buf : List ℕ) (start end : ℕ) → end ≤ length buf → start + n ≤ end → part buf start n ≡ take n (outputOf c out)
-    → (p : Packet) × (told (readPacket buf start end) ≡ readTold noRefusal p) × (contentsOf buf p ≡ c) × (p .length ≡ n)
+    → (p : Packet) × (packetTold (readPacket buf start end) ≡ readTold noRefusal p) × (contentsOf buf p ≡ c) × (p .length ≡ n)
 reads-back c typed out n is buf start end within fits same =
     let (r, room) = written-says c (length out) (ap (λ (t : WriteTold). t .refusal .number) is) in
     let w = writes c out r room in
     let long : n ≡ length (packetOf c) = sym (ap (λ (t : WriteTold). t .length) is) ∙ ap (λ (t : WriteTold). t .length) (w .0) ∙ sym (length-of c) in
     let there : part buf start (length (packetOf c)) ≡ packetOf c =
     rw long at same ∙ ap (λ (k : ℕ). take k (outputOf c out)) (length-of c) ∙ w .1 in
-    let (p, accepted, contents, length) = read-written c (right-accepts c typed r) buf start end within (omega arith) there in
-    (p, ap told accepted, contents, length ∙ sym long)
+    let (p, accepted, contents, length) = read-written c (writable-accepts c typed r) buf start end within (omega arith) there in
+    (p, ap packetTold accepted, contents, length ∙ sym long)
 
-again : (buf : List ℕ) → Bytes buf → (start end : ℕ) (p : Packet) → told (readPacket buf start end) ≡ readTold noRefusal p
+again : (buf : List ℕ) → Bytes buf → (start end : ℕ) (p : Packet) → packetTold (readPacket buf start end) ≡ readTold noRefusal p
     → (out : List ℕ) → p .length ≤ length out
     → (writeTold (writePacket (p .fields) (bytesIn buf (p .body)) (length out)) ≡ writtenTold noRefusal (p .length))
     × (take (p .length) (outputOf (contentsOf buf p) out) ≡ part buf start (p .length))
@@ -114,9 +114,9 @@ again buf raw start end p is out room =
     let c = contentsOf buf p in
     let (a, same) = read-again buf start end p raw accepted in
     let inside : start + p .length ≤ length buf =
-    omega (arith, fits buf start end p accepted .within, accepted-at buf start end p accepted .opens .within) in
+    omega (arith, accepted-fits buf start end p accepted .within, accepted-at buf start end p accepted .opens .within) in
     let long : lengthIn c ≡ p .length = sym (length-of c) ∙ ap length same ∙ length-part buf start (p .length) inside in
-    let w = writes c out (accepts-right c a) (omega arith) in
+    let w = writes c out (accepts-writable c a) (omega arith) in
     (rw (← long) (w .0), rw (← long) (w .1) ∙ same)
 
 pub demand-2 : Demand2
@@ -125,7 +125,7 @@ demand-2 =
       accepted-exactly = accepted-exactly;
       packet-there =
           λ buf start end p is.
-          rw (accepted-at buf start end p (accepted-is buf start end p is) .packet) (packet-is (window buf start end) start);
+          rw (accepted-at buf start end p (accepted-is buf start end p is) .packet) (packet-there-is (window buf start end) start);
       parts-there =
           λ buf start end p is. let t = together buf start end p (accepted-is buf start end p is) in (t, five-parts buf start p t);
       messages-there =

@@ -1,4 +1,4 @@
--- Demand 3 holds. Assumes nothing.
+-- Demand 3 holds.
 use mathlib.Core.Path.{_≡_, refl, sym, ap, _∙_}
 use mathlib.Core.List.{List, [], _∷_, _++_, map, append-assoc, append-nil}
 use mathlib.Core.Logic.{_≢_}

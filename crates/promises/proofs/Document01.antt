@@ -1,4 +1,4 @@
--- What document 01 promises beside the demands holds. Assumes nothing.
+-- What document 01 promises beside the demands holds.
 use mathlib.Core.Path.{_≡_, refl, ap, _∙_}
 use mathlib.Core.List.{List, _++_}
 use mathlib.Core.Logic.{inl, inr, _≢_}
@@ -12,7 +12,7 @@ use Rattle.body.specs.Answers.{noMessage}
 use Rattle.builder.proofs.ReadBack.{built-reads-back, built-closes}
 use Rattle.frame.specs.Table.{first, valueLines}
 use Rattle.frame.specs.declared.Fields.{Fields}
-use Rattle.packet.specs.Read.{window, readPacket, told}
+use Rattle.packet.specs.Read.{window, readPacket, packetTold}
 use Rattle.packet.specs.Messages.{messageCount, kthMessage, listAnswer, listPacket, messageAnswer, messagePacket, listTold, messageTold}
 use Rattle.packet.specs.Write.{writerLines, writerRefusal, fitted, writePacket, outAfter, writeTold}
 use Rattle.packet.specs.declared.PacketRead.{PacketRead}
@@ -29,7 +29,7 @@ use Rattle.promises.specs.Document01.{WritesOrNot, Document01}
 use Rattle.promises.proofs.Ends.{above}
 use Rattle.promises.proofs.Keeping.{refused-exactly}
 use Rattle.promises.proofs.Building.{building}
-use Rattle.promises.proofs.Writer.{lengthIn, right-written, accepts-right, length-of}
+use Rattle.promises.proofs.Writer.{lengthIn, writable-written, accepts-writable, length-of}
 
 -- ---- the writer's table
 
@@ -55,24 +55,24 @@ writes-or-not c room z =
 
 -- ---- the lister and one message, after the reader's tests
 
-list-as-read : (buf : List ℕ) (start end len₁ len₂ : ℕ) → told (readPacket buf start end) .refusal .number ≢ 0
-    → listTold (listPacket buf start end len₁ len₂) ≡ listedTold (told (readPacket buf start end) .refusal) 0
+list-as-read : (buf : List ℕ) (start end len₁ len₂ : ℕ) → packetTold (readPacket buf start end) .refusal .number ≢ 0
+    → listTold (listPacket buf start end len₁ len₂) ≡ listedTold (packetTold (readPacket buf start end) .refusal) 0
 unfolding listPacket listAnswer
 list-as-read buf start end len₁ len₂ = go (readPacket buf start end)
   where
-    go : (x : PacketRead) → told x .refusal .number ≢ 0
-        → listTold (listAnswer x start (messageCount (window buf start end)) (min len₁ len₂)) ≡ listedTold (told x .refusal) 0
+    go : (x : PacketRead) → packetTold x .refusal .number ≢ 0
+        → listTold (listAnswer x start (messageCount (window buf start end)) (min len₁ len₂)) ≡ listedTold (packetTold x .refusal) 0
     go (Accepted p) h = absurd (h refl)
     go (Refused r) h = refl
 
-message-as-read : (buf : List ℕ) (start end number : ℕ) → told (readPacket buf start end) .refusal .number ≢ 0
-    → messageTold (messagePacket buf start end number) ≡ givenTold (told (readPacket buf start end) .refusal) noMessage
+message-as-read : (buf : List ℕ) (start end number : ℕ) → packetTold (readPacket buf start end) .refusal .number ≢ 0
+    → messageTold (messagePacket buf start end number) ≡ givenTold (packetTold (readPacket buf start end) .refusal) noMessage
 unfolding messagePacket messageAnswer
 message-as-read buf start end number = go (readPacket buf start end)
   where
-    go : (x : PacketRead) → told x .refusal .number ≢ 0
+    go : (x : PacketRead) → packetTold x .refusal .number ≢ 0
         → messageTold (messageAnswer x start (messageCount (window buf start end)) number (kthMessage (window buf start end) number))
-        ≡ givenTold (told x .refusal) noMessage
+        ≡ givenTold (packetTold x .refusal) noMessage
     go (Accepted p) h = absurd (h refl)
     go (Refused r) h = refl
 
@@ -94,7 +94,7 @@ output-is c out = ap (λ (k : ℕ). packetOf c ++ drop k out) (zero-add (length 
 written-there : (c : Contents) → Accepts c → (out : List ℕ) → length (packetOf c) ≤ length out
     → outputOf c out ≡ packetOf c ++ drop (length (packetOf c)) out
 written-there c a out room =
-    let w = right-written c (length out) (accepts-right c a) (omega (arith, length-of c)) in
+    let w = writable-written c (length out) (accepts-writable c a) (omega (arith, length-of c)) in
     ap (λ (x : PacketWrite). outAfter x out (packetOf c)) w ∙ output-is c out
 
 pub document-01 : Document01

@@ -1,4 +1,4 @@
--- How each call ends: with what was asked for, or with one refusal from the table, whose place is fixed. Assumes nothing.
+-- How each call ends: with what was asked for, or with one refusal from the table, whose place is fixed.
 use mathlib.Core.Path.{_≡_, refl, sym, ap, _∙_}
 use mathlib.Core.List.{List}
 use mathlib.Core.Bool.{Bool, true, false, not}
@@ -18,7 +18,7 @@ use Rattle.body.specs.declared.Checked.{Checked}
 use Rattle.body.specs.declared.Checked.the-variants.{Counted, Faulty}
 use Rattle.body.proofs.Faults.{fault-at}
 use Rattle.frame.specs.Header.{flagsIn, dataLength, bodyAt, bodyIn}
-use Rattle.packet.specs.Read.{window, outerRefusal, bodyChecked, bodyAnswer, readPacket, noRefusal, noPacket, Told, told}
+use Rattle.packet.specs.Read.{window, outerRefusal, bodyChecked, bodyAnswer, readPacket, noRefusal, noPacket, PacketTold, packetTold}
 use Rattle.packet.specs.Messages.{listPacket, listTold, messagePacket, messageTold}
 use Rattle.packet.specs.declared.Packet.{Packet}
 use Rattle.packet.specs.declared.PacketRead.{PacketRead}
@@ -40,17 +40,17 @@ above n h = go (eq-zero-or-pos n)
 -- ---- the reader
 
 -- what is told as a packet is accepted
-pub accepted-is : (buf : List ℕ) (s e : ℕ) (p : Packet) → told (readPacket buf s e) ≡ readTold noRefusal p → readPacket buf s e ≡ Accepted p
-accepted-is buf s e p is = read-told buf s e (ap (λ (t : Told). t .refusal .number) is) ∙ ap (λ (t : Told). Accepted (t .packet)) is
+pub accepted-is : (buf : List ℕ) (s e : ℕ) (p : Packet) → packetTold (readPacket buf s e) ≡ readTold noRefusal p → readPacket buf s e ≡ Accepted p
+accepted-is buf s e p is = read-told buf s e (ap (λ (t : PacketTold). t .refusal .number) is) ∙ ap (λ (t : PacketTold). Accepted (t .packet)) is
 
 module _ (buf : List ℕ) (s e : ℕ) where
-  read-from : (x : PacketRead) → readPacket buf s e ≡ x → told x .refusal .number ≡ 0 → x ≡ Accepted (told x .packet)
-  read-from x q z = sym q ∙ read-told buf s e (rw q z) ∙ ap (λ (y : PacketRead). Accepted (told y .packet)) q
+  read-from : (x : PacketRead) → readPacket buf s e ≡ x → packetTold x .refusal .number ≡ 0 → x ≡ Accepted (packetTold x .packet)
+  read-from x q z = sym q ∙ read-told buf s e (rw q z) ∙ ap (λ (y : PacketRead). Accepted (packetTold y .packet)) q
 
-  pub read-ends : Ends 15 readTold noPacket (told (readPacket buf s e))
+  pub read-ends : Ends 15 readTold noPacket (packetTold (readPacket buf s e))
   read-ends = go (readPacket buf s e) refl
     where
-      go : (x : PacketRead) → readPacket buf s e ≡ x → Ends 15 readTold noPacket (told x)
+      go : (x : PacketRead) → readPacket buf s e ≡ x → Ends 15 readTold noPacket (packetTold x)
       go (Accepted p) q = inl (p, refl)
       go (Refused r) q =
           let least : 1 ≤ r .number = above (r .number) (λ z. let c : _≡_ {A = ℕ} 0 1 = cc (read-from (Refused r) q z) in omega arith) in
@@ -84,10 +84,10 @@ module _ (buf : List ℕ) (s e : ℕ) where
       go (inl h) = rw h (record { room = refl; outer = λ l. refl; inner = λ n. absurd (omega (arith, n, outer-top buf s e)) })
       go (inr h) = body-placed raw (bodyChecked (window buf s e)) refl r (h .1)
 
-  pub read-placed : Bytes buf → told (readPacket buf s e) .refusal .number ≢ 0 → Placed buf s e (told (readPacket buf s e) .refusal)
+  pub read-placed : Bytes buf → packetTold (readPacket buf s e) .refusal .number ≢ 0 → Placed buf s e (packetTold (readPacket buf s e) .refusal)
   read-placed raw = go (readPacket buf s e) refl
     where
-      go : (x : PacketRead) → readPacket buf s e ≡ x → told x .refusal .number ≢ 0 → Placed buf s e (told x .refusal)
+      go : (x : PacketRead) → readPacket buf s e ≡ x → packetTold x .refusal .number ≢ 0 → Placed buf s e (packetTold x .refusal)
       go (Accepted p) q h = absurd (h refl)
       go (Refused r) q h = refused-placed raw r q
 

@@ -1,5 +1,5 @@
 -- The demands are not empty: L is among the contents that the writer accepts; a recording of three different packets is read to its
--- exact end, and with two of them altered up to the first; a body is built. All computed by the checker. Assumes nothing.
+-- exact end, and with two of them altered up to the first; a body is built. All computed by the checker.
 use mathlib.Core.Path.{_≡_, refl, ap}
 use mathlib.Core.List.{List, [], _∷_}
 use mathlib.Core.Logic.{_≢_}
@@ -8,7 +8,7 @@ use native.Mathlib.Omega.{arith}
 use lib.ListN.{getD, replicate}
 use lib.Dec.{lit<, lit≤}
 use Rattle.units.specs.Units.{Bytes, splice, num, bytesOf, sumUnits, summed, zeros}
-use Rattle.builder.specs.Build.{openStep, grown, added as Build·added, addStep, entryOf, closeStep, bufAfter, told as Builder·told}
+use Rattle.builder.specs.Build.{openStep, grown, draftAdded, addStep, entryOf, closeStep, bufAfter, stepTold}
 use Rattle.builder.specs.Run.{Built, fresh, opened, added, closedBody}
 use Rattle.body.specs.Walk.{refused}
 use Rattle.body.specs.Times.{timeOk, ruleOf}
@@ -26,7 +26,7 @@ use Rattle.promises.specs.Contents.{packetOf, Accepts, AllAccepted, nil,
 use Rattle.packet.specs.Messages.{messageCount, kthMessage, messageAnswer, messagePacket, messageTold}
 use Rattle.promises.specs.Endings.{givenTold}
 use Rattle.promises.specs.Altered.{secondary, trailer, Pieces, none, intact, altered}
-use Rattle.promises.specs.Cases.{L, lContents, ieee1588, second, carriedByte, three, threeIn, twoAltered, stampedContents, block, opened as Cases·opened, bufferOpened, added as Cases·added, bufferAdded}
+use Rattle.promises.specs.Cases.{L, lContents, flags1588, second, carriedByte, three, threeIn, twoAltered, stampedContents, block, stepOpened, bufferOpened, stepAdded, bufferAdded}
 use Rattle.promises.proofs.Alterations.{change-named}
 
 -- ---- L
@@ -57,9 +57,9 @@ pub three-read : readRecording threeIn 5 125 ≡ record { accepted = 3; reached 
 unfolding num bytesOf sumUnits summed zeros timeOk ruleOf messageShape uartShape openBody stampLength headAt judge blockAt spot stopAt ending walkFrom walk checkBody fieldsIn limit messageRule first headLines valueLines wholeLines secondaryLines trailerLines frameLines headWords headBytes secondaryWords secondaryBytes bodyAndFillerBytes dataBytes packetBytes outerLines outerRefusal packetIn bodyChecked bodyAnswer readPacket writerLines writerRefusal fitted writePacket L lContents written carriedByte three threeIn readFrom reading readRecording
 three-read = refl
 
-second-accepted : Accepts (lContents ieee1588 (second 2))
+second-accepted : Accepts (lContents flags1588 (second 2))
 unfolding num bytesOf sumUnits summed zeros timeOk ruleOf messageShape uartShape openBody stampLength headAt judge blockAt spot stopAt ending walkFrom walk checkBody fieldsIn limit messageRule first headLines valueLines wholeLines secondaryLines trailerLines frameLines headWords headBytes secondaryWords secondaryBytes bodyAndFillerBytes dataBytes packetBytes writerLines writerRefusal fitted writePacket lContents carriedByte Bytes
-second-accepted = l-accepted ieee1588 (second 2) (lit< tt) (lit< tt) refl
+second-accepted = l-accepted flags1588 (second 2) (lit< tt) (lit< tt) refl
 
 carried-accepted : Accepts carriedByte
 unfolding num bytesOf sumUnits summed zeros timeOk ruleOf messageShape uartShape openBody stampLength headAt judge blockAt spot stopAt ending walkFrom walk checkBody fieldsIn limit messageRule first headLines valueLines wholeLines secondaryLines trailerLines frameLines headWords headBytes secondaryWords secondaryBytes bodyAndFillerBytes dataBytes packetBytes writerLines writerRefusal fitted writePacket lContents carriedByte Bytes
@@ -74,9 +74,9 @@ carried-accepted =
 pub three-accepted : AllAccepted three
 unfolding three
 three-accepted =
-    cons {c = lContents 2 0} L-accepted (cons {c = lContents ieee1588 (second 2)} second-accepted (cons {c = carriedByte} carried-accepted nil))
+    cons {c = lContents 2 0} L-accepted (cons {c = lContents flags1588 (second 2)} second-accepted (cons {c = carriedByte} carried-accepted nil))
 
-second-differs : splice (packetOf (lContents ieee1588 (second 2))) 24 (0x03 ∷ 0x00 ∷ []) ≢ packetOf (lContents ieee1588 (second 2))
+second-differs : splice (packetOf (lContents flags1588 (second 2))) 24 (0x03 ∷ 0x00 ∷ []) ≢ packetOf (lContents flags1588 (second 2))
 unfolding bytesOf headWords headBytes secondaryWords secondaryBytes bodyAndFillerBytes dataBytes packetBytes lContents
 second-differs e = let z : _≡_ {A = ℕ} 0x03 0x02 = ap (λ (l : List ℕ). getD l 24 0) e in omega arith
 
@@ -89,7 +89,7 @@ unfolding bytesOf headWords headBytes secondaryWords secondaryBytes bodyAndFille
 two-altered =
     intact L-accepted
     (altered second-accepted
-    (change-named (lContents ieee1588 (second 2)) (second-accepted .typed) 11 24 2 (secondary 0 (lit≤ tt)) (0x03 ∷ 0x00 ∷ []) refl (search arith) second-differs)
+    (change-named (lContents flags1588 (second 2)) (second-accepted .typed) 11 24 2 (secondary 0 (lit≤ tt)) (0x03 ∷ 0x00 ∷ []) refl (search arith) second-differs)
     (altered carried-accepted
     (change-named carriedByte (carried-accepted .typed) 13 24 4 (trailer 0 (lit< tt) (lit≤ tt)) (0xAA ∷ 0x01 ∷ 0x00 ∷ 0x00 ∷ []) refl (search arith) third-differs)
     none))
@@ -108,11 +108,11 @@ stamped-message = refl
 
 -- ---- L's body is built
 
-pub body-built : Built bufferAdded (Builder·told Cases·added .draft) (entryOf 0 0 block ∷ [])
-unfolding Cases·opened bufferOpened Cases·added bufferAdded openStep addStep grown Build·added bufAfter bytesOf stampLength
+pub body-built : Built bufferAdded (stepTold stepAdded .draft) (entryOf 0 0 block ∷ [])
+unfolding stepOpened bufferOpened stepAdded bufferAdded openStep addStep grown draftAdded bufAfter bytesOf stampLength
 body-built = added 0 0 block (lit< tt) (lit< tt) (opened 0x50 0 (fresh (replicate 12 0xEE)))
 
-pub body-closed : (Builder·told (closeStep (Builder·told Cases·added .draft) 12) .number ≡ 0)
-    × (closedBody bufferAdded (Builder·told Cases·added .draft) ≡ lContents 2 0 .body)
-unfolding Cases·opened bufferOpened Cases·added bufferAdded openStep addStep closeStep grown Build·added bufAfter bytesOf stampLength blockBytes lContents
+pub body-closed : (stepTold (closeStep (stepTold stepAdded .draft) 12) .number ≡ 0)
+    × (closedBody bufferAdded (stepTold stepAdded .draft) ≡ lContents 2 0 .body)
+unfolding stepOpened bufferOpened stepAdded bufferAdded openStep addStep closeStep grown draftAdded bufAfter bytesOf stampLength blockBytes lContents
 body-closed = (refl, refl)

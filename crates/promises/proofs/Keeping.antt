@@ -1,5 +1,5 @@
 -- A packet is accepted exactly when every rule holds, and refused by the first that does not: each of the reader's tests says what document 01
--- says. Assumes nothing.
+-- says.
 use mathlib.Core.Path.{_≡_, refl, sym, ap, subst, _∙_}
 use mathlib.Core.List.{List, [], _∷_, _++_}
 use mathlib.Core.Bool.{Bool, true, false, not, _&&_, _||_, false≢true}
@@ -32,12 +32,12 @@ use Rattle.frame.specs.Table.{line, first, headLines, valueLines, wholeLines, s
 use Rattle.frame.proofs.Tables.{holds}
 use Rattle.frame.proofs.Stages.{no-secondary}
 use Rattle.frame.proofs.Frames.{lengths-say}
-use Rattle.packet.specs.Read.{inside, window, outerLines, bodyChecked, readPacket, told}
+use Rattle.packet.specs.Read.{inside, window, outerLines, bodyChecked, readPacket, packetTold}
 use Rattle.packet.proofs.Told.{read-numbered}
 use Rattle.promises.proofs.BodiesKept.{opens-exactly, body-kept, time-says, time-made}
 use Rattle.promises.specs.Keeps.{definedTypes, OneOf, P, D, width, Rule, within, enough, synced, headerSum, version, defined, flagged, channel, lengths, whole, secondarySum, secondary, dataSum, filler, messages, Keeps}
 use Rattle.promises.proofs.Again.{field-below, byte-below}
-use Rattle.promises.proofs.Refusing.{Below, FirstBroken, tests, all-tested, counted, counted-says, number-is}
+use Rattle.promises.proofs.Refusing.{Below, FirstBroken, tests, all-tested, bodyPasses, passes-says, number-is}
 
 -- ---- 3: sync
 
@@ -151,10 +151,10 @@ limit-exactly k p = (says (eqb k 0x01) refl, made (eqb k 0x01) refl)
     made false e (inr h) = absurd (eqb-false k 0x01 e (h .0))
 
 -- P's parts, with the filler that is left
-abbrev Parted : ℕ → ℕ → ℕ → Type 0
-Parted f p d = (filler : ℕ) × (filler ≤ 3) × (p ≡ 24 + 12 * secondaryBit f + d + filler + sumLength f)
+abbrev InParts : ℕ → ℕ → ℕ → Type 0
+InParts f p d = (filler : ℕ) × (filler ≤ 3) × (p ≡ 24 + 12 * secondaryBit f + d + filler + sumLength f)
 
-parts-exactly : (f p d : ℕ) → ((unfilledLength f d ≤ p) × (p ≤ unfilledLength f d + 3)) ↔ Parted f p d
+parts-exactly : (f p d : ℕ) → ((unfilledLength f d ≤ p) × (p ≤ unfilledLength f d + 3)) ↔ InParts f p d
 parts-exactly f p d = (
   λ h. (p - unfilledLength f d, omega (arith, h .0, h .1), omega (arith, h .0)),
   λ (n, few, is). (omega (arith, is), omega (arith, is, few)),
@@ -367,7 +367,7 @@ module _ (buf : List ℕ) (s e : ℕ) (w : List ℕ) where
       let m = h (opens-exactly (kindIn w) .0 o) in
       (m .0, body-kept (kindIn w) (flagsIn w) (bodyIn w) (m .0) o .1 (m .1))
 
-  passes₁₅ : Rule buf s e w 15 → counted (bodyChecked w) ≡ true
+  passes₁₅ : Rule buf s e w 15 → bodyPasses (bodyChecked w) ≡ true
   unfolding bodyChecked
   passes₁₅ h = rw (kept-counted (kindIn w) (messageRule (flagsIn w)) (bodyIn w) (kept-messages h) .1)
 
@@ -391,12 +391,12 @@ module _ (buf : List ℕ) (s e : ℕ) (w : List ℕ) (raw : Bytes w) where
   says₁₂ : Rules.secondaryOk w ≡ true → Holds 12
   says₁₂ t = let r = secondary-says w raw t in secondary (r .reserved) (r .chapter4) (r .ieee1588)
 
-  says₁₅ : counted (bodyChecked w) ≡ true → Holds 15
+  says₁₅ : bodyPasses (bodyChecked w) ≡ true → Holds 15
   unfolding bodyChecked
   says₁₅ t =
       let kind = kindIn w in
       let rule = messageRule (flagsIn w) in
-      let (n, is) = counted-says (checkBody kind rule (bodyIn w)) t in
+      let (n, is) = passes-says (checkBody kind rule (bodyIn w)) t in
       messages λ h.
       let o = opens-exactly kind .1 h in
       let es = entriesIn kind rule (bodyIn w) n in
@@ -404,7 +404,7 @@ module _ (buf : List ℕ) (s e : ℕ) (w : List ℕ) (raw : Bytes w) where
 
   -- 11 to 15, of a packet that is there
   trailing : unfilledLength (flagsIn w) (D w) ≤ P w → P w ≤ length w → Below Holds 11
-      → FirstBroken Holds 15 (first (secondaryLines w ++ (trailerLines w ++ (line 15 (counted (bodyChecked w)) ∷ []))))
+      → FirstBroken Holds 15 (first (secondaryLines w ++ (trailerLines w ++ (line 15 (bodyPasses (bodyChecked w)) ∷ []))))
   unfolding secondaryLines trailerLines
   trailing parts there r₁₀ =
       let f = flagsIn w in
@@ -423,7 +423,7 @@ module _ (buf : List ℕ) (s e : ℕ) (w : List ℕ) (raw : Bytes w) where
       all-tested Holds 15 r₁₅
 
   -- 1 to 15
-  table-first : FirstBroken Holds 15 (first (line 1 (inside buf s e) ∷ (frameLines w ++ (line 15 (counted (bodyChecked w)) ∷ []))))
+  table-first : FirstBroken Holds 15 (first (line 1 (inside buf s e) ∷ (frameLines w ++ (line 15 (bodyPasses (bodyChecked w)) ∷ []))))
   unfolding frameLines headLines valueLines wholeLines secondaryLines trailerLines
   table-first =
       tests Holds 15 1 _ _ (omega arith) says₁ (passes₁ buf s e w) (λ m one less. absurd (omega arith)) λ _ r₁.
@@ -442,7 +442,7 @@ module _ (buf : List ℕ) (s e : ℕ) (w : List ℕ) (raw : Bytes w) where
 
 module _ (buf : List ℕ) (raw : Bytes buf) (start end : ℕ) where
   abbrev number : ℕ
-  number = told (readPacket buf start end) .refusal .number
+  number = packetTold (readPacket buf start end) .refusal .number
 
   abbrev Kept : ℕ → Type 0
   Kept = Rule buf start end (window buf start end)
@@ -451,7 +451,7 @@ module _ (buf : List ℕ) (raw : Bytes buf) (start end : ℕ) where
   unfolding outerLines
   number-first = rw (number-is buf start end) (table-first buf start end (window buf start end) (bytes-part buf start (end - start) raw))
 
-  pub accepted-exactly : (told (readPacket buf start end) .refusal .number ≡ 0) ↔ Keeps buf start end (window buf start end)
+  pub accepted-exactly : (packetTold (readPacket buf start end) .refusal .number ≡ 0) ↔ Keeps buf start end (window buf start end)
   accepted-exactly = (number-first .kept, λ keeps. go keeps (decLe 1 number))
     where
       go : Keeps buf start end (window buf start end) → Dec (1 ≤ number) → number ≡ 0
@@ -459,7 +459,7 @@ module _ (buf : List ℕ) (raw : Bytes buf) (start end : ℕ) where
       go keeps (no h) = omega arith
 
   pub refused-exactly : (n : ℕ) → 1 ≤ n → n ≤ 15
-      → (told (readPacket buf start end) .refusal .number ≡ n)
+      → (packetTold (readPacket buf start end) .refusal .number ≡ n)
       ↔ (((m : ℕ) → 1 ≤ m → m < n → Rule buf start end (window buf start end) m) × (¬ Rule buf start end (window buf start end) n))
   refused-exactly n one most = (
     λ is. (λ m least less. number-first .below m least (omega arith), λ here. number-first .broken (λ z. omega arith) (subst Kept (sym is) here)),

@@ -1,5 +1,5 @@
 -- No two outcomes satisfy the statement of a public call: its result, and what each slice lent for writing holds afterwards.
--- The statements: specs/Calls.antt. Assumes nothing.
+-- The statements: specs/Calls.antt.
 use mathlib.Core.Path.{_≡_, sym, ap, _∙_}
 use mathlib.Core.List.{List}
 use Prim.Native.Nat.{ℕ}

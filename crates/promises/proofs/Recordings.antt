@@ -1,4 +1,4 @@
--- Contents that the writer accepts, written end to end in a window, are handed out, and an altered packet behind them ends the reading. Assumes nothing.
+-- Contents that the writer accepts, written end to end in a window, are handed out, and an altered packet behind them ends the reading.
 use mathlib.Core.Path.{_≡_, refl, sym, ap, subst, _∙_}
 use mathlib.Core.List.{List, [], _∷_, _++_, map, append-assoc, append-nil}
 use Prim.Native.Nat.{ℕ, _+_, _-_, _≤_, _<_}

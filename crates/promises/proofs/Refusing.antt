@@ -1,4 +1,4 @@
--- The number that a reading tells is that of the first rule that is not kept, where each line of the table says its rule. Assumes nothing.
+-- The number that a reading tells is that of the first rule that is not kept, where each line of the table says its rule.
 use mathlib.Core.Path.{_≡_, refl, sym, subst, _∙_}
 use mathlib.Core.List.{List, [], _∷_, _++_}
 use mathlib.Core.Bool.{Bool, true, false, not, false≢true}
@@ -14,7 +14,7 @@ use Rattle.body.specs.declared.Checked.{Checked}
 use Rattle.body.specs.declared.Checked.the-variants.{Counted, Faulty}
 use Rattle.frame.specs.Table.{Line, line, first, headLines, valueLines, wholeLines, secondaryLines, trailerLines, frameLines}
 use Rattle.frame.proofs.Tables.{numbered, stage-some, stage-none}
-use Rattle.packet.specs.Read.{window, outerLines, outerRefusal, bodyChecked, bodyAnswer, readPacket, told}
+use Rattle.packet.specs.Read.{window, outerLines, outerRefusal, bodyChecked, bodyAnswer, readPacket, packetTold}
 use Rattle.packet.specs.declared.PacketRead.the-variants.{Refused}
 
 -- ---- a table's number is that of the first rule that is not kept
@@ -58,33 +58,33 @@ all-tested rule last all =
 -- ---- the reader's table, with 15 as its last line
 
 -- whether a body passes
-abbrev pub counted : Checked → Bool
-counted (Counted n) = true
-counted (Faulty f) = false
+abbrev pub bodyPasses : Checked → Bool
+bodyPasses (Counted n) = true
+bodyPasses (Faulty f) = false
 
-pub counted-says : (c : Checked) → counted c ≡ true → (n : ℕ) × (c ≡ Counted n)
-counted-says (Counted n) t = (n, refl)
-counted-says (Faulty f) t = absurd (false≢true t)
+pub passes-says : (c : Checked) → bodyPasses c ≡ true → (n : ℕ) × (c ≡ Counted n)
+passes-says (Counted n) t = (n, refl)
+passes-says (Faulty f) t = absurd (false≢true t)
 
 -- 1 to 15
 abbrev pub allLines : List ℕ → ℕ → ℕ → List Line
-allLines buf s e = outerLines buf s e ++ (line 15 (counted (bodyChecked (window buf s e))) ∷ [])
+allLines buf s e = outerLines buf s e ++ (line 15 (bodyPasses (bodyChecked (window buf s e))) ∷ [])
 
 outer-numbered : (buf : List ℕ) (s e : ℕ) → T (numbered (outerLines buf s e))
 unfolding outerLines frameLines headLines valueLines wholeLines secondaryLines trailerLines
 outer-numbered buf s e = tt
 
-body-number : (c : Checked) (w : List ℕ) (at : ℕ) → told (bodyAnswer c w at) .refusal .number ≡ first (line 15 (counted c) ∷ [])
+body-number : (c : Checked) (w : List ℕ) (at : ℕ) → packetTold (bodyAnswer c w at) .refusal .number ≡ first (line 15 (bodyPasses c) ∷ [])
 unfolding bodyAnswer first
 body-number (Counted n) w at = refl
 body-number (Faulty f) w at = refl
 
-pub number-is : (buf : List ℕ) (s e : ℕ) → told (readPacket buf s e) .refusal .number ≡ first (allLines buf s e)
+pub number-is : (buf : List ℕ) (s e : ℕ) → packetTold (readPacket buf s e) .refusal .number ≡ first (allLines buf s e)
 unfolding readPacket outerRefusal
 number-is buf s e = go (eqb (outerRefusal buf s e) 0) refl
   where
     go : (b : Bool) → eqb (outerRefusal buf s e) 0 ≡ b
-        → told (pick (not b) (Refused (refused (outerRefusal buf s e) s 0)) (bodyAnswer (bodyChecked (window buf s e)) (window buf s e) s)) .refusal .number
+        → packetTold (pick (not b) (Refused (refused (outerRefusal buf s e) s 0)) (bodyAnswer (bodyChecked (window buf s e)) (window buf s e) s)) .refusal .number
         ≡ first (allLines buf s e)
     go true q =
         body-number (bodyChecked (window buf s e)) (window buf s e) s

@@ -1,4 +1,4 @@
--- The regions of a packet that is written, read again: the header, the secondary header, and body, filler and data sum. Assumes nothing.
+-- The regions of a packet that is written, read again: the header, the secondary header, and body, filler and data sum.
 use mathlib.Core.Path.{_≡_, refl, sym}
 use mathlib.Core.List.{List, [], _++_, append-assoc}
 use mathlib.Core.Bool.{Bool, true, false, _||_}
@@ -37,46 +37,37 @@ summed-put w k xs t l =
 
 -- ---- the header; t is what stands behind it
 
+-- w begins with the header of these fields, P and D
+pub record HeadIs (f : Fields) (p d : ℕ) (w : List ℕ) : Type 0 where
+  pub sync : synced w ≡ true
+  pub channel : f .channel < 2 ^ 16 → channelIn w ≡ f .channel
+  pub packet-length : p < 2 ^ 32 → packetLength w ≡ p
+  pub data-length : d < 2 ^ 32 → dataLength w ≡ d
+  pub version : versionIn w ≡ f .version
+  pub sequence : sequenceIn w ≡ f .sequence
+  pub flags : flagsIn w ≡ f .flags
+  pub kind : kindIn w ≡ f .kind
+  pub rtc : f .rtc < 2 ^ 48 → rtcIn w ≡ f .rtc
+
 module _ (f : Fields) (p d : ℕ) (t : List ℕ) where
-  pub head-synced : synced (headBytes f p d ++ t) ≡ true
+  pub head-is : HeadIs f p d (headBytes f p d ++ t)
   unfolding headBytes headWords bytesOf
-  head-synced = refl
+  head-is =
+      record {
+        sync = refl;
+        channel = num-bytesOf 2 (f .channel);
+        packet-length = num-bytesOf 4 p;
+        data-length = num-bytesOf 4 d;
+        version = refl;
+        sequence = refl;
+        flags = refl;
+        kind = refl;
+        rtc = num-bytesOf 6 (f .rtc);
+      }
 
   pub head-summed : summed 2 11 (headBytes f p d ++ t) ≡ true
   unfolding headBytes
   head-summed = summed-put 2 11 (headWords f p d) t (length-words f p d)
-
-  pub head-channel : f .channel < 2 ^ 16 → channelIn (headBytes f p d ++ t) ≡ f .channel
-  unfolding headBytes headWords bytesOf
-  head-channel h = num-bytesOf 2 (f .channel) h
-
-  pub head-packet-length : p < 2 ^ 32 → packetLength (headBytes f p d ++ t) ≡ p
-  unfolding headBytes headWords bytesOf
-  head-packet-length h = num-bytesOf 4 p h
-
-  pub head-data-length : d < 2 ^ 32 → dataLength (headBytes f p d ++ t) ≡ d
-  unfolding headBytes headWords bytesOf
-  head-data-length h = num-bytesOf 4 d h
-
-  pub head-version : versionIn (headBytes f p d ++ t) ≡ f .version
-  unfolding headBytes headWords bytesOf
-  head-version = refl
-
-  pub head-sequence : sequenceIn (headBytes f p d ++ t) ≡ f .sequence
-  unfolding headBytes headWords bytesOf
-  head-sequence = refl
-
-  pub head-flags : flagsIn (headBytes f p d ++ t) ≡ f .flags
-  unfolding headBytes headWords bytesOf
-  head-flags = refl
-
-  pub head-kind : kindIn (headBytes f p d ++ t) ≡ f .kind
-  unfolding headBytes headWords bytesOf
-  head-kind = refl
-
-  pub head-rtc : f .rtc < 2 ^ 48 → rtcIn (headBytes f p d ++ t) ≡ f .rtc
-  unfolding headBytes headWords bytesOf
-  head-rtc h = num-bytesOf 6 (f .rtc) h
 
 pub head-bytes : (f : Fields) (p d : ℕ) → f .version < 2 ^ 8 → f .sequence < 2 ^ 8 → f .flags < 2 ^ 8 → f .kind < 2 ^ 8 → Bytes (headBytes f p d)
 unfolding headBytes headWords bytesOf Bytes

@@ -1,4 +1,4 @@
--- What the calls report of an accepted packet's messages is what is there. Assumes nothing.
+-- What the calls report of an accepted packet's messages is what is there.
 use mathlib.Core.Path.{_≡_, sym, ap, _∙_}
 use mathlib.Core.List.{List, [], _∷_, _++_}
 use mathlib.Core.Bool.{Bool, true, false}
@@ -21,7 +21,7 @@ use Rattle.body.proofs.Bounds.{message-fits}
 use Rattle.body.proofs.Exactly.{body-of-blocks, body-messages}
 use Rattle.frame.specs.Header.{dataLength, flagsIn, kindIn, bodyAt, bodyIn}
 use Rattle.frame.specs.Rules.{messageRule}
-use Rattle.packet.specs.Read.{window, bodyChecked, readPacket, noRefusal, told}
+use Rattle.packet.specs.Read.{window, bodyChecked, readPacket, noRefusal, packetTold}
 use Rattle.packet.specs.Messages.{messageCount, kthMessage, listAnswer, listPacket, listAfter, starts, lengths, messageAnswer, messagePacket, listTold, messageTold}
 use Rattle.packet.specs.declared.Packet.{Packet}
 use Rattle.packet.specs.declared.PacketRead.{PacketRead}
@@ -29,7 +29,7 @@ use Rattle.packet.specs.declared.PacketRead.the-variants.{Accepted}
 use Rattle.packet.specs.declared.PacketList.{PacketList}
 use Rattle.packet.specs.declared.PacketList.the-variants.{Listed, Unlisted}
 use Rattle.packet.specs.declared.PacketMessage.the-variants.{Given, Withheld}
-use Rattle.packet.proofs.Answers.{ahead}
+use Rattle.packet.proofs.Answers.{inPacket}
 use Rattle.packet.proofs.Own.{accepted-at}
 use Rattle.promises.specs.Endings.{listedTold, givenTold}
 use Rattle.promises.specs.Reports.{messageFor, Reports}
@@ -100,7 +100,7 @@ module _ (kind : ℕ) (rule : TimeRule) (bs : List ℕ) (es : List Entry) (b : B
 
 -- where the k-th message stands in a packet, from where it stands in the body
 ahead-is : (flags : ℕ) (stamped : Bool) (es : List Entry) (k : ℕ)
-    → ahead (bodyAt flags) (messageOn stamped (4 + length (blocksBytes stamped (take k es))) (getD es k noEntry)) ≡ messageFor flags stamped es k
+    → inPacket (bodyAt flags) (messageOn stamped (4 + length (blocksBytes stamped (take k es))) (getD es k noEntry)) ≡ messageFor flags stamped es k
 ahead-is flags stamped es k =
     let before = length (blocksBytes stamped (take k es)) in
     let start : bodyAt flags + (4 + before + stampLength stamped + 4) ≡ bodyAt flags + 4 + before + stampLength stamped + 4 = omega arith in
@@ -123,7 +123,7 @@ module _ (buf : List ℕ) (s e : ℕ) (p : Packet) (es : List Entry) (h : readPa
   kth-is : (k : ℕ) → k < length es → kthMessage w k ≡ reported k
   unfolding kthMessage
   kth-is k more =
-      ap (ahead (bodyAt (flagsIn w))) (body-messages (kindIn w) (messageRule (flagsIn w)) (bodyIn w) es b k more)
+      ap (inPacket (bodyAt (flagsIn w))) (body-messages (kindIn w) (messageRule (flagsIn w)) (bodyIn w) es b k more)
       ∙ ahead-is (flagsIn w) (b .shape .stamped) es k
 
   bytes-in-buffer : (k : ℕ) → k < length es → part buf (s + reported k .start) (length (getD es k noEntry .bytes)) ≡ getD es k noEntry .bytes
@@ -163,7 +163,7 @@ pub messages-there : (buf : List ℕ) (s e : ℕ) (p : Packet) → Bytes buf →
     → (es : List Entry) × (b : BodyOf (kindIn (window buf s e)) (messageRule (flagsIn (window buf s e))) (bodyIn (window buf s e)) es)
     × Reports buf s e es (b .shape .stamped)
 messages-there buf s e p raw h o =
-    let keeps = accepted-exactly buf raw s e .0 (ap (λ (x : PacketRead). told x .refusal .number) h) in
+    let keeps = accepted-exactly buf raw s e .0 (ap (λ (x : PacketRead). packetTold x .refusal .number) h) in
     let m = kept-messages buf s e (window buf s e) (keeps 15 (omega arith) (omega arith)) o in
     (m .0, m .1, blocks-reported buf s e p (m .0) h (m .1))
 

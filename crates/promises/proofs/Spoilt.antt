@@ -1,4 +1,4 @@
--- A window that the frame's rules let through, one unit of it changed, is refused with the number named. Assumes nothing.
+-- A window that the frame's rules let through, one unit of it changed, is refused with the number named.
 use mathlib.Core.Path.{_≡_, refl, sym, ap, subst, _∙_}
 use mathlib.Core.List.{List, _++_, append-assoc}
 use mathlib.Core.Bool.{Bool, true, false}
@@ -17,7 +17,7 @@ use Rattle.units.proofs.Choices.{and-true}
 use Rattle.frame.specs.Header.{byte, packetLength, flagsIn, secondaryLength, sumLength, bodyAt}
 use Rattle.frame.specs.Rules.{enough, synced, headerSummed, secondarySummed, dataSummed}
 use Rattle.frame.specs.Table.{first, headLines, valuesIn, wholeLines, secondaryLines, trailerLines, frameLines}
-use Rattle.frame.specs.Inner.{Sound}
+use Rattle.frame.specs.inner.Lengths.{Sound}
 use Rattle.frame.proofs.Tables.{stage-none}
 use Rattle.frame.proofs.Frames.{Parted, parted, Framed, framed-passes, frame-sound, head-numbered, value-numbered, whole-numbered, secondary-numbered}
 

@@ -1,4 +1,4 @@
--- The starred cases hold, computed by the checker. Assumes nothing.
+-- The starred cases hold, computed by the checker.
 use mathlib.Core.Path.{refl}
 use Rattle.units.specs.Units.{num, bytesOf, sumUnits, summed, zeros}
 use Rattle.body.specs.Times.{timeOk, ruleOf}

@@ -1,4 +1,4 @@
--- What the writer's acceptance says, rule by rule, and that it says no more. Assumes nothing.
+-- What the writer's acceptance says, rule by rule, and that it says no more.
 use mathlib.Core.Path.{_≡_, refl, _∙_}
 use mathlib.Core.Bool.{Bool, true, false, not, _||_}
 use Prim.Native.Nat.{ℕ, _^_, _≤_, _<_}
@@ -28,7 +28,7 @@ abbrev pub lengthIn : Contents → ℕ
 lengthIn c = lengthFor (c .fields .flags) (length (c .body))
 
 -- 17, 5 to 9, 12 and 15 have nothing against it
-pub record Right (c : Contents) : Type 0 where
+pub record Writable (c : Contents) : Type 0 where
   pub rtc : c .fields .rtc < 2 ^ 48
   pub absent : (eqb (secondaryBit (c .fields .flags)) 1 || eqb (c .fields .time) 0) ≡ true
   pub values : Valued (c .fields .channel) (c .fields .version) (c .fields .flags) (c .fields .kind) (lengthIn c) (length (c .body))
@@ -52,7 +52,7 @@ module _ (c : Contents) where
       let t = stage-second (valueLines (f .channel) (f .version) (f .flags) (f .kind) (lengthIn c) (length (c .body))) _ (value-numbered _ _ _ _ _ _) (h₁₇ .1) in
       (ltb-true (f .rtc) (2 ^ 48) (r .0), r .1, valued-says _ _ _ _ _ _ v, holds 12 _ _ tt t .0)
 
-  pub refusal-none : Right c → writerRefusal (c .fields) (length (c .body)) ≡ 0
+  pub refusal-none : Writable c → writerRefusal (c .fields) (length (c .body)) ≡ 0
   unfolding writerRefusal writerLines first
   refusal-none r =
       let f = c .fields in
@@ -82,7 +82,7 @@ fitted-says (Faulty r) n room z = absurd (omega (arith, z))
 
 module _ (c : Contents) (room : ℕ) where
   -- a writing told as 0: the rules hold, and the packet has room
-  pub written-says : writeTold (writePacket (c .fields) (c .body) room) .refusal .number ≡ 0 → Right c × (lengthIn c ≤ room)
+  pub written-says : writeTold (writePacket (c .fields) (c .body) room) .refusal .number ≡ 0 → Writable c × (lengthIn c ≤ room)
   unfolding writePacket
   written-says z =
       let o = refused-number (writerRefusal (c .fields) (length (c .body))) _ z in
@@ -91,18 +91,18 @@ module _ (c : Contents) (room : ℕ) where
       (record { rtc = s .0; absent = s .1; values = s .2; time = s .3; count = b .0; body = b .1 }, b .2)
 
   -- where they hold and there is room, the packet is written
-  pub right-written : Right c → lengthIn c ≤ room → writePacket (c .fields) (c .body) room ≡ Written (lengthIn c)
+  pub writable-written : Writable c → lengthIn c ≤ room → writePacket (c .fields) (c .body) room ≡ Written (lengthIn c)
   unfolding writePacket fitted
-  right-written r h = rw (refusal-none c r, r .body, le-ltb room (lengthIn c) h)
+  writable-written r h = rw (refusal-none c r, r .body, le-ltb room (lengthIn c) h)
 
 -- ---- contents that the writer accepts
 
 pub length-of : (c : Contents) → length (packetOf c) ≡ lengthIn c
 length-of c = length-packet (c .fields) (c .body)
 
-pub accepts-right : (c : Contents) → Accepts c → Right c
-accepts-right c a = written-says c (a .room) (a .writes) .0
+pub accepts-writable : (c : Contents) → Accepts c → Writable c
+accepts-writable c a = written-says c (a .room) (a .writes) .0
 
-pub right-accepts : (c : Contents) → Typed c → Right c → Accepts c
-right-accepts c t r =
-    record { typed = t; room = lengthIn c; writes = rw (right-written c (lengthIn c) r (omega arith)) }
+pub writable-accepts : (c : Contents) → Typed c → Writable c → Accepts c
+writable-accepts c t r =
+    record { typed = t; room = lengthIn c; writes = rw (writable-written c (lengthIn c) r (omega arith)) }

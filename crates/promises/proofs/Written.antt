@@ -1,4 +1,4 @@
--- What the writer writes passes every test of the reader, and reads back as given, whatever stands behind it. Assumes nothing.
+-- What the writer writes passes every test of the reader, and reads back as given, whatever stands behind it.
 use mathlib.Core.Path.{_≡_, refl, sym, ap, _∙_}
 use mathlib.Core.List.{List, [], _++_, append-assoc, append-nil}
 use Prim.Native.Nat.{ℕ, _+_, _-_, _≤_}
@@ -12,7 +12,7 @@ use Rattle.units.proofs.Parts.{part-at, part-part}
 use Rattle.body.specs.declared.Checked.the-variants.{Counted}
 use Rattle.frame.specs.Header.{channelIn, packetLength, dataLength, versionIn, sequenceIn, flagsIn, kindIn, rtcIn, timeIn, sumCode, sumLength, secondaryLength, bodyAt, fillerFor, secondaryIn, bodyIn, fillerIn, bodyAndFillerIn, dataSumIn, fieldsIn}
 use Rattle.frame.specs.Table.{first, frameLines}
-use Rattle.frame.specs.Inner.{Sound}
+use Rattle.frame.specs.inner.Lengths.{Sound}
 use Rattle.frame.proofs.Frames.{Framed, framed-passes, frame-sound, Lengths, lengths-say, limit-cap, packet-length-front, body-front, fields-front, frame-front, OfFront, own-bytes}
 use Rattle.packet_bytes.specs.Bytes.{headBytes, secondaryBytes, bodyAndFillerBytes, dataBytes, packetBytes}
 use Rattle.packet_bytes.proofs.Puts.{length-head, length-secondary, length-filled}
@@ -22,13 +22,11 @@ use Rattle.packet.specs.declared.PacketRead.the-variants.{Accepted}
 use Rattle.packet.proofs.Answers.{outer-inside, outer-open}
 use Rattle.packet.proofs.Own.{at-accepted, checked-front}
 use Rattle.promises.specs.Contents.{Contents, Typed, packetOf, Accepts, contentsOf}
-use Rattle.promises.proofs.Writer.{Right, lengthIn, length-of, accepts-right}
-use Rattle.promises.proofs.Regions.{head-synced, head-summed, head-channel, head-packet-length, head-data-length, head-version, head-sequence, head-flags, head-kind, head-rtc, head-bytes, secondary-summed, secondary-reserved, secondary-time, secondary-bytes, sumBytes, data-parts, sum-back, data-bytes}
+use Rattle.promises.specs.Altered.{flagsOf}
+use Rattle.promises.proofs.Writer.{Writable, lengthIn, length-of, accepts-writable}
+use Rattle.promises.proofs.Regions.{HeadIs, head-is, head-summed, head-bytes, secondary-summed, secondary-reserved, secondary-time, secondary-bytes, sumBytes, data-parts, sum-back, data-bytes}
 
 -- ---- the packet's regions
-
-abbrev flagsOf : Contents → ℕ
-flagsOf c = c .fields .flags
 
 abbrev timeOf : Contents → ℕ
 timeOf c = c .fields .time
@@ -90,7 +88,7 @@ module _ (c : Contents) where
       (bytes-append (headOf c) (secondaryOf c ++ dataOf c) (head-bytes (c .fields) (lengthIn c) (length (c .body)) (t .version) (t .sequence) (t .flags) (t .kind))
       (bytes-append (secondaryOf c) (dataOf c) (secondary-bytes (flagsOf c) (timeOf c)) (data-bytes (flagsOf c) (c .body) (t .body))))
 
-module _ (c : Contents) (t : Typed c) (r : Right c) where
+module _ (c : Contents) (t : Typed c) (r : Writable c) where
   -- ---- the header's numbers
 
   lengths : Lengths (c .fields .kind) (flagsOf c) (lengthIn c) (length (c .body))
@@ -99,29 +97,32 @@ module _ (c : Contents) (t : Typed c) (r : Right c) where
   capped : lengthIn c ≤ 134217728
   capped = omega (arith, lengths .within, limit-cap (c .fields .kind))
 
+  head-back : HeadIs (c .fields) (lengthIn c) (length (c .body)) (packetOf c)
+  head-back = rw (around-secondary c) (head-is (c .fields) (lengthIn c) (length (c .body)) (secondaryOf c ++ dataOf c))
+
   channel-back : channelIn (packetOf c) ≡ c .fields .channel
-  channel-back = rw (around-secondary c) (head-channel (c .fields) (lengthIn c) (length (c .body)) (secondaryOf c ++ dataOf c) (t .channel))
+  channel-back = head-back .channel (t .channel)
 
   pub written-length : packetLength (packetOf c) ≡ lengthIn c
-  written-length = rw (around-secondary c) (head-packet-length (c .fields) (lengthIn c) (length (c .body)) (secondaryOf c ++ dataOf c) (omega (arith, capped)))
+  written-length = head-back .packet-length (omega (arith, capped))
 
   pub written-data-length : dataLength (packetOf c) ≡ length (c .body)
-  written-data-length = rw (around-secondary c) (head-data-length (c .fields) (lengthIn c) (length (c .body)) (secondaryOf c ++ dataOf c) (omega (arith, capped)))
+  written-data-length = head-back .data-length (omega (arith, capped))
 
   version-back : versionIn (packetOf c) ≡ c .fields .version
-  version-back = rw (around-secondary c) (head-version (c .fields) (lengthIn c) (length (c .body)) (secondaryOf c ++ dataOf c))
+  version-back = head-back .version
 
   sequence-back : sequenceIn (packetOf c) ≡ c .fields .sequence
-  sequence-back = rw (around-secondary c) (head-sequence (c .fields) (lengthIn c) (length (c .body)) (secondaryOf c ++ dataOf c))
+  sequence-back = head-back .sequence
 
   flags-back : flagsIn (packetOf c) ≡ flagsOf c
-  flags-back = rw (around-secondary c) (head-flags (c .fields) (lengthIn c) (length (c .body)) (secondaryOf c ++ dataOf c))
+  flags-back = head-back .flags
 
   kind-back : kindIn (packetOf c) ≡ c .fields .kind
-  kind-back = rw (around-secondary c) (head-kind (c .fields) (lengthIn c) (length (c .body)) (secondaryOf c ++ dataOf c))
+  kind-back = head-back .kind
 
   rtc-back : rtcIn (packetOf c) ≡ c .fields .rtc
-  rtc-back = rw (around-secondary c) (head-rtc (c .fields) (lengthIn c) (length (c .body)) (secondaryOf c ++ dataOf c) (r .rtc))
+  rtc-back = head-back .rtc (r .rtc)
 
   -- ---- the parts behind it
 
@@ -180,7 +181,7 @@ module _ (c : Contents) (t : Typed c) (r : Right c) where
       let sum = dataSum (sumCode (flagsOf c)) (filledOf c) in
       record {
         enough = le-leb 24 (length (packetOf c)) (omega (arith, length-of c, lengths .parts));
-        synced = rw (around-secondary c) (head-synced (c .fields) (lengthIn c) (length (c .body)) behind);
+        synced = head-back .sync;
         headerSummed = rw (around-secondary c) (head-summed (c .fields) (lengthIn c) (length (c .body)) behind);
         values = rw (channel-back, version-back, flags-back, kind-back, written-length, written-data-length) (r .values);
         whole = le-leb (packetLength (packetOf c)) (length (packetOf c)) (omega (arith, written-length, length-of c));
@@ -205,7 +206,7 @@ module _ (c : Contents) (a : Accepts c) (buf : List ℕ) (s e : ℕ) (within : e
   -- what is said of a packet alone is said of the window
   said : {A : Type 0} (what : List ℕ → A) → OfFront what → what (window buf s e) ≡ what (packetOf c)
   said what front =
-      let r = accepts-right c a in
+      let r = accepts-writable c a in
       let n : packetLength (packetOf c) ≡ length (packetOf c) = written-length c (a .typed) r ∙ sym (length-of c) in
       own-bytes what front (packetOf c) (window buf s e) (written-sound c (a .typed) r)
       (rw n (take-take (length (packetOf c)) (e - s) (drop s buf) (omega arith) ∙ same ∙ sym (take-length (packetOf c))))
@@ -213,7 +214,7 @@ module _ (c : Contents) (a : Accepts c) (buf : List ℕ) (s e : ℕ) (within : e
   pub read-written : (p : Packet) × (readPacket buf s e ≡ Accepted p) × (contentsOf buf p ≡ c) × (p .length ≡ length (packetOf c))
   unfolding packetIn
   read-written =
-      let r = accepts-right c a in
+      let r = accepts-writable c a in
       let w = window buf s e in
       let framed : first (frameLines w) ≡ 0 = ap first (said frameLines frame-front) ∙ framed-passes (packetOf c) (written-framed c (a .typed) r) in
       let opens = outer-open buf s e (sym (outer-inside buf s e 0 (omega arith) within (sym framed))) in

@@ -5,7 +5,7 @@ use mathlib.Core.Logic.{_⊎_, _≢_}
 use Prim.Native.Nat.{ℕ, _+_, _%_, _^_, _≤_, _<_}
 use lib.Dec.{ltb}
 use Rattle.units.specs.Choice.{pick}
-use Rattle.builder.specs.Build.{openStep, addStep, closeStep, Told, told}
+use Rattle.builder.specs.Build.{openStep, addStep, closeStep, StepTold, stepTold}
 use Rattle.builder.specs.declared.Draft.{Draft}
 
 -- what opening takes: 0x30 with a time rule, 0x50 with one or none. Rules: 1 the counter, 2 Chapter 4, 3 IEEE 1588, 4 extended counter; 0 none
@@ -40,7 +40,7 @@ pub record InForm (rule time : ℕ) : Type 0 where
   pub ieee1588 : rule ≡ 3 → time % 2 ^ 32 < 1000000000
 
 -- an answer: its number, place 0, the room needed, and the state that is handed back
-abbrev pub says : ℕ → ℕ → Draft → Told
+abbrev pub says : ℕ → ℕ → Draft → StepTold
 says number room d = record { number = number; place = 0; room = room; draft = d }
 
 -- the used count with a block of n bytes more: a time stamp of 8 bytes where there is a rule, an ID word of 4, then n bytes, then one pad
@@ -50,32 +50,32 @@ grownTo d n = d .used + (pick (ltb 0 (d .rule)) 8 0 + 4 + n + n % 2)
 
 pub record Building : Type 0 where
   -- Opening: "17 for another type, a reserved time format or no rule in 0x30"
-  pub open-17 : (d : Draft) (kind rule len : ℕ) → ¬ Opens kind rule → told (openStep d kind rule len) ≡ says 17 0 d
+  pub open-17 : (d : Draft) (kind rule len : ℕ) → ¬ Opens kind rule → stepTold (openStep d kind rule len) ≡ says 17 0 d
   -- "then 16": the channel word needs 4 bytes
-  pub open-16 : (d : Draft) (kind rule len : ℕ) → Opens kind rule → len < 4 → told (openStep d kind rule len) ≡ says 16 4 d
+  pub open-16 : (d : Draft) (kind rule len : ℕ) → Opens kind rule → len < 4 → stepTold (openStep d kind rule len) ≡ says 16 4 d
   -- none otherwise: the channel word is used, with no block, whatever the state given
   pub opens : (d : Draft) (kind rule len : ℕ) → Opens kind rule → 4 ≤ len
-      → told (openStep d kind rule len) ≡ says 0 0 (record { used = 4; blocks = 0; kind = kind; rule = rule })
+      → stepTold (openStep d kind rule len) ≡ says 0 0 (record { used = 4; blocks = 0; kind = kind; rule = rule })
   -- Adding: "1"
-  pub add-1 : (d : Draft) (len time n : ℕ) → ¬ SoundDraft d len → told (addStep d len time n) ≡ says 1 0 d
+  pub add-1 : (d : Draft) (len time n : ℕ) → ¬ SoundDraft d len → stepTold (addStep d len time n) ≡ says 1 0 d
   -- "then 17 for n outside 1 to 65,535 or a 65,536th block in 0x30"
-  pub add-17 : (d : Draft) (len time n : ℕ) → SoundDraft d len → ¬ Takes d n → told (addStep d len time n) ≡ says 17 0 d
+  pub add-17 : (d : Draft) (len time n : ℕ) → SoundDraft d len → ¬ Takes d n → stepTold (addStep d len time n) ≡ says 17 0 d
   -- "then 15 for a time out of form"
   pub add-15 : (d : Draft) (len time n : ℕ) → SoundDraft d len → Takes d n → 0 < d .rule → ¬ InForm (d .rule) time
-      → told (addStep d len time n) ≡ says 15 0 d
+      → stepTold (addStep d len time n) ≡ says 15 0 d
   -- "(and 17 for a time that isn't zero where none is stored)"
   pub add-stray : (d : Draft) (len time n : ℕ) → SoundDraft d len → Takes d n → d .rule ≡ 0 → time ≢ 0
-      → told (addStep d len time n) ≡ says 17 0 d
+      → stepTold (addStep d len time n) ≡ says 17 0 d
   -- "then 16", with the whole body as room
   pub add-16 : (d : Draft) (len time n : ℕ) → SoundDraft d len → Takes d n → InForm (d .rule) time → (d .rule ≡ 0 → time ≡ 0)
-      → len < grownTo d n → told (addStep d len time n) ≡ says 16 (grownTo d n) d
+      → len < grownTo d n → stepTold (addStep d len time n) ≡ says 16 (grownTo d n) d
   -- none otherwise: one block more, of this size
   pub adds : (d : Draft) (len time n : ℕ) → d .blocks + 1 < 2 ^ 64 → SoundDraft d len → Takes d n → InForm (d .rule) time
       → (d .rule ≡ 0 → time ≡ 0) → grownTo d n ≤ len
-      → told (addStep d len time n) ≡ says 0 0 (record { used = grownTo d n; blocks = d .blocks + 1; kind = d .kind; rule = d .rule })
+      → stepTold (addStep d len time n) ≡ says 0 0 (record { used = grownTo d n; blocks = d .blocks + 1; kind = d .kind; rule = d .rule })
   -- Closing: "1"
-  pub close-1 : (d : Draft) (len : ℕ) → ¬ SoundDraft d len → told (closeStep d len) ≡ says 1 0 d
+  pub close-1 : (d : Draft) (len : ℕ) → ¬ SoundDraft d len → stepTold (closeStep d len) ≡ says 1 0 d
   -- "then 15 where the used count is 4 (no block)"
-  pub close-15 : (d : Draft) (len : ℕ) → SoundDraft d len → d .used ≡ 4 → told (closeStep d len) ≡ says 15 0 d
+  pub close-15 : (d : Draft) (len : ℕ) → SoundDraft d len → d .used ≡ 4 → stepTold (closeStep d len) ≡ says 15 0 d
   -- none otherwise: the state as it was
-  pub closes : (d : Draft) (len : ℕ) → SoundDraft d len → d .used ≢ 4 → told (closeStep d len) ≡ says 0 0 d
+  pub closes : (d : Draft) (len : ℕ) → SoundDraft d len → d .used ≢ 4 → stepTold (closeStep d len) ≡ says 0 0 d

@@ -6,22 +6,22 @@ use lib.ListN.{length, set, replicate}
 use Rattle.units.specs.Units.{splice, field, bytesOf}
 use Rattle.body.specs.Walk.{refused}
 use Rattle.body.specs.Blocks.{blockBytes}
-use Rattle.builder.specs.Build.{stamped, freshDraft, openStep, openWord, addStep, entryOf, bufAfter, told as Builder·told}
+use Rattle.builder.specs.Build.{stamped, freshDraft, openStep, openWord, addStep, entryOf, bufAfter, stepTold}
 use Rattle.builder.specs.declared.Step.{Step}
 use Rattle.frame.specs.Header.{secondaryIn}
-use Rattle.packet.specs.Read.{partAt, readPacket, noRefusal, noPacket, Told, told}
+use Rattle.packet.specs.Read.{partAt, readPacket, noRefusal, noPacket, PacketTold, packetTold}
 use Rattle.packet.specs.Write.{writePacket, WriteTold, writeTold}
 use Rattle.promises.specs.Contents.{Contents, packetOf, written}
 
 -- a case: a window, and what the reader tells; contents, an output of `room` bytes, and what the writer tells; or bytes and the sum in
 -- their secondary header
 pub data Case : Type 0 where
-  reads : List ℕ → ℕ → ℕ → Told → Case
+  reads : List ℕ → ℕ → ℕ → PacketTold → Case
   writes : Contents → ℕ → WriteTold → Case
   secondarySum : List ℕ → ℕ → Case
 
 abbrev pub Right : Case → Type 0
-Right (reads buf start end t) = told (readPacket buf start end) ≡ t
+Right (reads buf start end t) = packetTold (readPacket buf start end) ≡ t
 Right (writes c room t) = writeTold (writePacket (c .fields) (c .body) room) ≡ t
 Right (secondarySum bytes sum) = field (secondaryIn bytes) 10 2 ≡ sum
 
@@ -49,17 +49,17 @@ abbrev among : List ℕ → List ℕ
 among bytes = 0xEE ∷ 0xEE ∷ 0xEE ∷ (bytes ++ L)
 
 -- what is told of their packet there: P, the header sum, the lengths of secondary header, filler and sum, and the data sum
-abbrev accepts : ℕ → ℕ → ℕ → ℕ → ℕ → ℕ → ℕ → ℕ → Told
-accepts flags time p headsum secondary filler width datasum =
+abbrev accepts : ℕ → ℕ → ℕ → ℕ → ℕ → ℕ → ℕ → ℕ → PacketTold
+accepts flags time p «header_sum» secondary filler width «data_sum» =
     record {
       refusal = noRefusal;
       packet =
           record {
             fields = lContents flags time .fields;
             length = p;
-            datalength = 12;
-            headsum = headsum;
-            datasum = datasum;
+            «data_length» = 12;
+            «header_sum» = «header_sum»;
+            «data_sum» = «data_sum»;
             header = partAt 3 24;
             secondary = partAt 27 secondary;
             body = partAt (27 + secondary) 12;
@@ -69,12 +69,12 @@ accepts flags time p headsum secondary filler width datasum =
     }
 
 -- a refusal, at the packet's start
-abbrev refuses : ℕ → Told
+abbrev refuses : ℕ → PacketTold
 refuses number = record { refusal = refused number 3 0; packet = noPacket }
 
 -- flags of a secondary header with an IEEE 1588 time and no data sum; a time of 1 second and some nanoseconds
-abbrev pub ieee1588 : ℕ
-ieee1588 = 0x84
+abbrev pub flags1588 : ℕ
+flags1588 = 0x84
 
 abbrev pub second : ℕ → ℕ
 second nanoseconds = 1 * 2 ^ 32 + nanoseconds
@@ -97,13 +97,13 @@ cases =
     -- without: P 36
     ∷ reads (among (packetOf (lContents 0 0))) 3 39 (accepts 0 0 36 0x3B5D 0 0 0 0)
     -- 1588 time of 1 s and 2 ns: secondary sum 3
-    ∷ secondarySum (packetOf (lContents ieee1588 (second 2))) 3
-    ∷ reads (among (packetOf (lContents ieee1588 (second 2)))) 3 51 (accepts ieee1588 (second 2) 48 0x3BED 12 0 0 0)
+    ∷ secondarySum (packetOf (lContents flags1588 (second 2))) 3
+    ∷ reads (among (packetOf (lContents flags1588 (second 2)))) 3 51 (accepts flags1588 (second 2) 48 0x3BED 12 0 0 0)
     -- 999,999,999 ns is accepted, 1,000,000,000 is 12; by the writer too
-    ∷ reads (among (packetOf (lContents ieee1588 (second 999999999)))) 3 51 (accepts ieee1588 (second 999999999) 48 0x3BED 12 0 0 0)
-    ∷ reads (among (packetOf (lContents ieee1588 (second 1000000000)))) 3 51 (refuses 12)
-    ∷ writes (lContents ieee1588 (second 999999999)) 48 (record { refusal = noRefusal; length = 48 })
-    ∷ writes (lContents ieee1588 (second 1000000000)) 48 (record { refusal = refused 12 0 0; length = 0 })
+    ∷ reads (among (packetOf (lContents flags1588 (second 999999999)))) 3 51 (accepts flags1588 (second 999999999) 48 0x3BED 12 0 0 0)
+    ∷ reads (among (packetOf (lContents flags1588 (second 1000000000)))) 3 51 (refuses 12)
+    ∷ writes (lContents flags1588 (second 999999999)) 48 (record { refusal = noRefusal; length = 48 })
+    ∷ writes (lContents flags1588 (second 1000000000)) 48 (record { refusal = refused 12 0 0; length = 0 })
     ∷ []
 
 -- ---- a recording of three different packets
@@ -114,7 +114,7 @@ carriedByte = record { fields = record { channel = 7; version = 1; sequence = 25
 
 -- L, L's body under a secondary header, and that byte
 unfoldable pub three : List Contents
-three = lContents 2 0 ∷ lContents ieee1588 (second 2) ∷ carriedByte ∷ []
+three = lContents 2 0 ∷ lContents flags1588 (second 2) ∷ carriedByte ∷ []
 
 -- from byte 5 to byte 125 of a buffer with other bytes ahead of them and behind
 unfoldable pub threeIn : List ℕ
@@ -124,7 +124,7 @@ threeIn = replicate 5 0xFF ++ (written three ++ replicate 9 0x25)
 unfoldable pub twoAltered : List ℕ
 twoAltered =
     packetOf (lContents 2 0)
-    ++ (splice (packetOf (lContents ieee1588 (second 2))) 24 (0x03 ∷ 0x00 ∷ [])
+    ++ (splice (packetOf (lContents flags1588 (second 2))) 24 (0x03 ∷ 0x00 ∷ [])
     ++ (splice (packetOf carriedByte) 24 (0xAA ∷ 0x01 ∷ 0x00 ∷ 0x00 ∷ [])
     ++ []))
 
@@ -148,14 +148,14 @@ stampedContents =
 abbrev pub block : List ℕ
 block = 0x41 ∷ 0x42 ∷ 0x43 ∷ []
 
-unfoldable pub opened : Step
-opened = openStep freshDraft 0x50 0 12
+unfoldable pub stepOpened : Step
+stepOpened = openStep freshDraft 0x50 0 12
 
 unfoldable pub bufferOpened : List ℕ
-bufferOpened = bufAfter opened (replicate 12 0xEE) 0 (bytesOf 4 (openWord 0x50 0))
+bufferOpened = bufAfter stepOpened (replicate 12 0xEE) 0 (bytesOf 4 (openWord 0x50 0))
 
-unfoldable pub added : Step
-added = addStep (Builder·told opened .draft) 12 0 3
+unfoldable pub stepAdded : Step
+stepAdded = addStep (stepTold stepOpened .draft) 12 0 3
 
 unfoldable pub bufferAdded : List ℕ
-bufferAdded = bufAfter added bufferOpened (Builder·told opened .draft .used) (blockBytes (stamped (Builder·told opened .draft .rule)) (entryOf 0 0 block))
+bufferAdded = bufAfter stepAdded bufferOpened (stepTold stepOpened .draft .used) (blockBytes (stamped (stepTold stepOpened .draft .rule)) (entryOf 0 0 block))

@@ -7,9 +7,9 @@ use Prim.Native.Nat.{ℕ, _+_, _≤_}
 use lib.ListN.{length, drop}
 use Rattle.units.specs.Units.{Bytes, part}
 use Rattle.body.specs.Answers.{noMessage}
-use Rattle.builder.specs.Build.{bufAfter, told as Builder·told}
+use Rattle.builder.specs.Build.{bufAfter, stepTold}
 use Rattle.builder.specs.declared.Step.{Step}
-use Rattle.packet.specs.Read.{inside, window, readPacket, noRefusal, noPacket, told}
+use Rattle.packet.specs.Read.{inside, window, readPacket, noRefusal, noPacket, packetTold}
 use Rattle.packet.specs.Messages.{listPacket, listAfter, starts, lengths, messagePacket, listTold, entries, messageTold}
 use Rattle.packet.specs.Write.{outAfter, writeTold}
 use Rattle.packet.specs.declared.Packet.{Packet}
@@ -21,7 +21,7 @@ use Rattle.promises.specs.Endings.{FromTable, Ends, readTold, listedTold
 
 -- the three calls on the packet at `start` say the same of two buffers, with these ends; the lists' entries too, whatever they held before
 pub record Alike (start : ℕ) (a : List ℕ) (end : ℕ) (b : List ℕ) (end′ : ℕ) : Type 0 where
-  pub read : told (readPacket a start end) ≡ told (readPacket b start end′)
+  pub read : packetTold (readPacket a start end) ≡ packetTold (readPacket b start end′)
   pub list : (len₁ len₂ : ℕ) → listTold (listPacket a start end len₁ len₂) ≡ listTold (listPacket b start end′ len₁ len₂)
   pub starts-told : (len₁ len₂ : ℕ) (old old′ : List ℕ)
       → entries (listPacket a start end len₁ len₂) (starts (window a start end)) old ≡ entries (listPacket b start end′ len₁ len₂) (starts (window b start end′)) old′
@@ -39,9 +39,9 @@ pub record Demand1 : Type 0 where
   -- and place fixed." Fixed: no two outcomes satisfy what a call promises (proofs/Once.antt); which number: Document01.read-first.
 
   -- the reader: a packet, or one of 1 to 15, and its place
-  pub read-ends : (buf : List ℕ) (start end : ℕ) → Ends 15 readTold noPacket (told (readPacket buf start end))
-  pub read-placed : (buf : List ℕ) → Bytes buf → (start end : ℕ) → told (readPacket buf start end) .refusal .number ≢ 0
-      → Placed buf start end (told (readPacket buf start end) .refusal)
+  pub read-ends : (buf : List ℕ) (start end : ℕ) → Ends 15 readTold noPacket (packetTold (readPacket buf start end))
+  pub read-placed : (buf : List ℕ) → Bytes buf → (start end : ℕ) → packetTold (readPacket buf start end) .refusal .number ≢ 0
+      → Placed buf start end (packetTold (readPacket buf start end) .refusal)
   -- the lister, with lists of any length: a count, or one of 1 to 16
   pub list-ends : (buf : List ℕ) (start end len₁ len₂ : ℕ) → Ends 16 listedTold 0 (listTold (listPacket buf start end len₁ len₂))
   -- one message, of any number: it, or one of 1 to 17
@@ -49,7 +49,7 @@ pub record Demand1 : Type 0 where
   -- a recording: at the exact end of a window in its buffer, or at a place where the reader gives that refusal, one of 1 to 15
   pub recording-ends : (buf : List ℕ) (start end : ℕ)
       → ((inside buf start end ≡ true) × (readRecording buf start end .reached ≡ end) × (readRecording buf start end .refusal ≡ noRefusal))
-      ⊎ ((told (readPacket buf (readRecording buf start end .reached) end) .refusal ≡ readRecording buf start end .refusal)
+      ⊎ ((packetTold (readPacket buf (readRecording buf start end .reached) end) .refusal ≡ readRecording buf start end .refusal)
       × FromTable 15 (readRecording buf start end .refusal))
   -- "Nothing outside that window changes the answer."
 
@@ -62,7 +62,7 @@ pub record Demand1 : Type 0 where
   pub nothing-outside-handed : (a b : List ℕ) (start end : ℕ) → end ≤ length a → end ≤ length b → window a start end ≡ window b start end
       → (ps : List Packet) → HandsOut a start end (readRecording a start end) ps → HandsOut b start end (readRecording b start end) ps
   -- document 01: "For one accepted packet, the bytes behind its declared length have no say either", nor has the end beyond it
-  pub nothing-behind : (a b : List ℕ) (start end end′ : ℕ) (p : Packet) → told (readPacket a start end) ≡ readTold noRefusal p
+  pub nothing-behind : (a b : List ℕ) (start end end′ : ℕ) (p : Packet) → packetTold (readPacket a start end) ≡ readTold noRefusal p
       → start + p .length ≤ end′ → end′ ≤ length b → part a start (p .length) ≡ part b start (p .length) → Alike start a end b end′
   -- "Readers write nothing but the lists they are lent": a buffer that is read is lent for reading alone, which the language holds to;
   -- of a list, nothing past the count told is written
@@ -72,4 +72,4 @@ pub record Demand1 : Type 0 where
   -- "a refused call leaves all lent memory untouched": the lister's lists, the writer's output, the builder's buffer at each step
   pub lists-untouched : (r : PacketList) → listTold r .refusal .number ≢ 0 → (values : ℕ → ℕ) (old : List ℕ) → listAfter r values old ≡ old
   pub output-untouched : (r : PacketWrite) → writeTold r .refusal .number ≢ 0 → (old bytes : List ℕ) → outAfter r old bytes ≡ old
-  pub buffer-untouched : (r : Step) → Builder·told r .number ≢ 0 → (old : List ℕ) (at : ℕ) (bytes : List ℕ) → bufAfter r old at bytes ≡ old
+  pub buffer-untouched : (r : Step) → stepTold r .number ≢ 0 → (old : List ℕ) (at : ℕ) (bytes : List ℕ) → bufAfter r old at bytes ≡ old

@@ -9,7 +9,7 @@ use Rattle.body.specs.Walk.{refused}
 use Rattle.body.specs.Answers.{noMessage}
 use Rattle.body.specs.Blocks.{Entry}
 use Rattle.frame.specs.Header.{flagsIn, kindIn, bodyIn}
-use Rattle.packet.specs.Read.{window, readPacket, Together, noRefusal, told}
+use Rattle.packet.specs.Read.{window, readPacket, Together, noRefusal, packetTold}
 use Rattle.packet.specs.Messages.{listPacket, messagePacket, listTold, messageTold}
 use Rattle.packet.specs.Write.{writePacket, writeTold}
 use Rattle.packet.specs.declared.Part.{Part}
@@ -28,24 +28,24 @@ pub record Demand2 : Type 0 where
   -- "A packet is accepted exactly when the rules in document 01, taken from Chapter 11, hold: header, lengths, secondary time, sums,
   -- filler, and the messages of the types we open." The rules, one by one: Keeps.
   pub accepted-exactly : (buf : List ℕ) → Bytes buf → (start end : ℕ)
-      → (told (readPacket buf start end) .refusal .number ≡ 0) ↔ Keeps buf start end (window buf start end)
+      → (packetTold (readPacket buf start end) .refusal .number ≡ 0) ↔ Keeps buf start end (window buf start end)
   -- "Every part and message reported is the one there."
 
   -- each field is the one in the header, each part stands where the header says
-  pub packet-there : (buf : List ℕ) (start end : ℕ) (p : Packet) → told (readPacket buf start end) ≡ readTold noRefusal p
+  pub packet-there : (buf : List ℕ) (start end : ℕ) (p : Packet) → packetTold (readPacket buf start end) ≡ readTold noRefusal p
       → PacketThere (window buf start end) start p
   -- the parts stand one behind the other from the start on, and are all of the packet's bytes
-  pub parts-there : (buf : List ℕ) (start end : ℕ) (p : Packet) → told (readPacket buf start end) ≡ readTold noRefusal p
+  pub parts-there : (buf : List ℕ) (start end : ℕ) (p : Packet) → packetTold (readPacket buf start end) ≡ readTold noRefusal p
       → Together start p
       × (part buf start (p .length)
       ≡ bytesIn buf (p .header) ++ (bytesIn buf (p .secondary) ++ (bytesIn buf (p .body) ++ (bytesIn buf (p .filler) ++ bytesIn buf (p .sum)))))
   -- the messages of a type that we open are the blocks of its body, all of them, each where it stands
-  pub messages-there : (buf : List ℕ) → Bytes buf → (start end : ℕ) (p : Packet) → told (readPacket buf start end) ≡ readTold noRefusal p
+  pub messages-there : (buf : List ℕ) → Bytes buf → (start end : ℕ) (p : Packet) → packetTold (readPacket buf start end) ≡ readTold noRefusal p
       → (kindIn (window buf start end) ≡ 0x30) ⊎ (kindIn (window buf start end) ≡ 0x50)
       → (es : List Entry) × (b : BodyKept (kindIn (window buf start end)) (flagsIn (window buf start end)) (bodyIn (window buf start end)) es)
       × Reports buf start end es (b .stamped)
   -- of any other type there are none
-  pub carried-none : (buf : List ℕ) (start end : ℕ) (p : Packet) → told (readPacket buf start end) ≡ readTold noRefusal p
+  pub carried-none : (buf : List ℕ) (start end : ℕ) (p : Packet) → packetTold (readPacket buf start end) ≡ readTold noRefusal p
       → kindIn (window buf start end) ≢ 0x30 → kindIn (window buf start end) ≢ 0x50
       → ((len₁ len₂ : ℕ) → listTold (listPacket buf start end len₁ len₂) ≡ listedTold noRefusal 0)
       × ((number : ℕ) → messageTold (messagePacket buf start end number) ≡ givenTold (refused 17 start 0) noMessage)
@@ -53,9 +53,9 @@ pub record Demand2 : Type 0 where
   -- stands around them
   pub written-reads-back : (c : Contents) → Typed c → (out : List ℕ) (n : ℕ) → writeTold (writePacket (c .fields) (c .body) (length out)) ≡ writtenTold noRefusal n
       → (buf : List ℕ) (start end : ℕ) → end ≤ length buf → start + n ≤ end → part buf start n ≡ take n (outputOf c out)
-      → (p : Packet) × (told (readPacket buf start end) ≡ readTold noRefusal p) × (contentsOf buf p ≡ c) × (p .length ≡ n)
+      → (p : Packet) × (packetTold (readPacket buf start end) ≡ readTold noRefusal p) × (contentsOf buf p ≡ c) × (p .length ≡ n)
   -- "and an accepted packet written again has the same bytes": its fields and body, into any output with room for it
-  pub written-again : (buf : List ℕ) → Bytes buf → (start end : ℕ) (p : Packet) → told (readPacket buf start end) ≡ readTold noRefusal p
+  pub written-again : (buf : List ℕ) → Bytes buf → (start end : ℕ) (p : Packet) → packetTold (readPacket buf start end) ≡ readTold noRefusal p
       → (out : List ℕ) → p .length ≤ length out
       → (writeTold (writePacket (p .fields) (bytesIn buf (p .body)) (length out)) ≡ writtenTold noRefusal (p .length))
       × (take (p .length) (outputOf (contentsOf buf p) out) ≡ part buf start (p .length))

@@ -13,13 +13,13 @@ use Rattle.body.specs.Blocks.{Entry, entriesIn}
 use Rattle.body.specs.declared.Refusal.{Refusal}
 use Rattle.body.specs.declared.TimeRule.{TimeRule}
 use Rattle.body.specs.declared.Checked.the-variants.{Counted, Faulty}
-use Rattle.builder.specs.Build.{stamped, entryOf, closeStep, told as Builder·told}
+use Rattle.builder.specs.Build.{stamped, entryOf, closeStep, stepTold}
 use Rattle.builder.specs.Run.{Built, closedBody}
 use Rattle.builder.specs.declared.Draft.{Draft}
 use Rattle.frame.specs.Rules.{messageRule}
 use Rattle.frame.specs.Table.{first}
 use Rattle.frame.specs.declared.Fields.{Fields}
-use Rattle.packet.specs.Read.{window, readPacket, noRefusal, told}
+use Rattle.packet.specs.Read.{window, readPacket, noRefusal, packetTold}
 use Rattle.packet.specs.Messages.{listPacket, messagePacket, listTold, messageTold}
 use Rattle.packet.specs.Write.{writePacket, writeTold}
 use Rattle.packet.specs.declared.Packet.{Packet}
@@ -44,13 +44,13 @@ pub record Document01 : Type 0 where
   -- "Tested from the top, save where a call's own order stands below; the first that applies is given, and none is given otherwise."
   -- n is given exactly where the rules above it are kept and its own is not; 0, where all are: Demand2.accepted-exactly
   pub read-first : (buf : List ℕ) → Bytes buf → (start end n : ℕ) → 1 ≤ n → n ≤ 15
-      → (told (readPacket buf start end) .refusal .number ≡ n)
+      → (packetTold (readPacket buf start end) .refusal .number ≡ n)
       ↔ (((m : ℕ) → 1 ≤ m → m < n → Rule buf start end (window buf start end) m) × (¬ Rule buf start end (window buf start end) n))
   -- Lister: "After the reader's tests", and the second call too: a refusal of the reader is theirs, number, place and room
-  pub list-as-read : (buf : List ℕ) (start end len₁ len₂ : ℕ) → told (readPacket buf start end) .refusal .number ≢ 0
-      → listTold (listPacket buf start end len₁ len₂) ≡ listedTold (told (readPacket buf start end) .refusal) 0
-  pub message-as-read : (buf : List ℕ) (start end number : ℕ) → told (readPacket buf start end) .refusal .number ≢ 0
-      → messageTold (messagePacket buf start end number) ≡ givenTold (told (readPacket buf start end) .refusal) noMessage
+  pub list-as-read : (buf : List ℕ) (start end len₁ len₂ : ℕ) → packetTold (readPacket buf start end) .refusal .number ≢ 0
+      → listTold (listPacket buf start end len₁ len₂) ≡ listedTold (packetTold (readPacket buf start end) .refusal) 0
+  pub message-as-read : (buf : List ℕ) (start end number : ℕ) → packetTold (readPacket buf start end) .refusal .number ≢ 0
+      → messageTold (messagePacket buf start end number) ≡ givenTold (packetTold (readPacket buf start end) .refusal) noMessage
   -- Recording: "Handed out means that the one-packet reader, at each of those places with the same end, gives that packet; the number is
   -- exactly how many. The lengths of the accepted packets add up to the distance covered." One list of packets is so, and no other.
   pub recording-handed : (buf : List ℕ) (start end : ℕ)
@@ -59,13 +59,13 @@ pub record Document01 : Type 0 where
   pub builder-answers : Building
   -- "From a fresh state handed on step by step and closed last, the buffer untouched between, the body, at any size, reads back
   -- by the layout above and its time rule as the blocks added."
-  pub built-reads-back : (buf : List ℕ) (d : Draft) (es : List Entry) (rule : TimeRule) → Built buf d es → Builder·told (closeStep d (length buf)) .number ≡ 0
+  pub built-reads-back : (buf : List ℕ) (d : Draft) (es : List Entry) (rule : TimeRule) → Built buf d es → stepTold (closeStep d (length buf)) .number ≡ 0
       → (stamped (d .rule) ≡ true → rule ≡ ruleOf (d .rule))
       → (checkBody (d .kind) rule (closedBody buf d) ≡ Counted (length es)) × (entriesIn (d .kind) rule (closedBody buf d) (length es) ≡ es)
   -- a block added is the time, the ID word made of its upper half and n, and the bytes, as given
   pub block-added : (time upper : ℕ) (bytes : List ℕ) → entryOf time upper bytes ≡ record { time = time; id = upper * 2 ^ 16 + length bytes; bytes = bytes }
   -- once a block is added, closing is not refused
-  pub built-closes : (buf : List ℕ) (d : Draft) (e : Entry) (es : List Entry) → Built buf d (e ∷ es) → Builder·told (closeStep d (length buf)) .number ≡ 0
+  pub built-closes : (buf : List ℕ) (d : Draft) (e : Entry) (es : List Entry) → Built buf d (e ∷ es) → stepTold (closeStep d (length buf)) .number ≡ 0
   -- Writer: a length, or one refusal of the table's; "First 17 (..), then 5 to 9, 12 and 15 by the reader's rules, then 16."
   pub write-ends : (f : Fields) (body : List ℕ) (room : ℕ) → Ends 17 writtenTold 0 (writeTold (writePacket f body room))
   pub write-table : (f : Fields) (body : List ℕ) (room : ℕ) → first (writerTable f (length body)) ≢ 0

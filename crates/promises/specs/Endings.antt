@@ -8,7 +8,7 @@ use Rattle.body.specs.declared.Refusal.{Refusal}
 use Rattle.body.specs.declared.Message.{Message}
 use Rattle.frame.specs.Header.{flagsIn, kindIn, bodyAt, bodyIn}
 use Rattle.frame.specs.Rules.{messageRule}
-use Rattle.packet.specs.Read.{window, noRefusal, Told}
+use Rattle.packet.specs.Read.{window, noRefusal, PacketTold}
 use Rattle.packet.specs.Messages.{ListTold, MessageTold}
 use Rattle.packet.specs.Write.{WriteTold}
 use Rattle.packet.specs.declared.Packet.{Packet}
@@ -23,7 +23,7 @@ Ends {Value} {Telling} most tell nothing t =
     ((v : Value) × (t ≡ tell noRefusal v)) ⊎ ((r : Refusal) × (t ≡ tell r nothing) × FromTable most r)
 
 -- a refusal and a value, as each call tells them
-abbrev pub readTold : Refusal → Packet → Told
+abbrev pub readTold : Refusal → Packet → PacketTold
 readTold r p = record { refusal = r; packet = p }
 
 abbrev pub listedTold : Refusal → ℕ → ListTold

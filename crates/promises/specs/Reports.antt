@@ -20,18 +20,18 @@ use Rattle.promises.specs.Endings.{listedTold, givenTold}
 pub record PacketThere (w : List ℕ) (at : ℕ) (p : Packet) : Type 0 where
   pub channel : p .fields .channel ≡ field w 2 2
   pub long : p .length ≡ field w 4 4
-  pub datalength : p .datalength ≡ field w 8 4
+  pub «data_length» : p .«data_length» ≡ field w 8 4
   pub version : p .fields .version ≡ byte w 12
   pub sequence : p .fields .sequence ≡ byte w 13
   pub flags : p .fields .flags ≡ byte w 14
   pub kind : p .fields .kind ≡ byte w 15
   pub rtc : p .fields .rtc ≡ field w 16 6
-  pub headsum : p .headsum ≡ field w 22 2
+  pub «header_sum» : p .«header_sum» ≡ field w 22 2
   -- low long word, high long word; 0 if absent
   pub time : byte w 14 / 128 % 2 ≡ 1 → p .fields .time ≡ field w 24 4 + 2 ^ 32 * field w 28 4
   pub no-time : byte w 14 / 128 % 2 ≡ 0 → p .fields .time ≡ 0
   -- the last bytes of the packet, 0 if absent
-  pub datasum : p .datasum ≡ field w (field w 4 4 - sumWidth (byte w 14 % 4)) (sumWidth (byte w 14 % 4))
+  pub «data_sum» : p .«data_sum» ≡ field w (field w 4 4 - sumWidth (byte w 14 % 4)) (sumWidth (byte w 14 % 4))
   pub header : p .header ≡ partAt at 24
   pub secondary : p .secondary ≡ partAt (at + 24) (12 * (byte w 14 / 128 % 2))
   pub body : p .body ≡ partAt (at + (24 + 12 * (byte w 14 / 128 % 2))) (field w 8 4)

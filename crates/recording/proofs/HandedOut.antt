@@ -1,4 +1,4 @@
--- Demand 1: a recording hands out what the one-packet reader accepts, place by place, and nothing outside its window has a say. Assumes nothing.
+-- Demand 1: a recording hands out what the one-packet reader accepts, place by place, and nothing outside its window has a say.
 use mathlib.Core.Path.{_≡_, refl, sym, ap, _∙_}
 use mathlib.Core.List.{List, [], _∷_}
 use mathlib.Core.Bool.{Bool, true, false, true≢false}
@@ -17,11 +17,11 @@ use Rattle.body.specs.Walk.{refused}
 use Rattle.body.specs.declared.Refusal.{Refusal}
 use Rattle.frame.specs.Table.{frameLines}
 use Rattle.frame.proofs.Tables.{stands}
-use Rattle.packet.specs.Read.{inside, window, outerLines, outerRefusal, readPacket, noRefusal, noPacket, Told, told}
+use Rattle.packet.specs.Read.{inside, window, outerLines, outerRefusal, readPacket, noRefusal, noPacket, PacketTold, packetTold}
 use Rattle.packet.specs.declared.Packet.{Packet}
 use Rattle.packet.specs.declared.PacketRead.{PacketRead}
 use Rattle.packet.specs.declared.PacketRead.the-variants.{Accepted, Refused}
-use Rattle.packet.proofs.Own.{fits}
+use Rattle.packet.proofs.Own.{accepted-fits}
 use Rattle.packet.proofs.Answers.{read-refused}
 use Rattle.packet.proofs.Told.{read-told, read-numbered}
 use Rattle.packet.proofs.Window.{read-window}
@@ -31,24 +31,24 @@ use Rattle.recording.specs.declared.Recording.{Recording}
 use Rattle.recording.proofs.Readings.{from, from-end, from-on, from-stops, reading-inside, reading-outside}
 
 -- what is told of a packet that is accepted
-abbrev accepted : Packet → Told
+abbrev accepted : Packet → PacketTold
 accepted p = record { refusal = noRefusal; packet = p }
 
 -- ---- from a place of the window on
 
 -- HandsOut of what is read from there
 record HandedFrom (buf : List ℕ) (at end : ℕ) (r : Reading) : Type 0 where
-  each : (i : ℕ) → i < length (r .packets) → told (readPacket buf (at + lengthOf (take i (r .packets))) end) ≡ accepted (getD (r .packets) i noPacket)
+  each : (i : ℕ) → i < length (r .packets) → packetTold (readPacket buf (at + lengthOf (take i (r .packets))) end) ≡ accepted (getD (r .packets) i noPacket)
   covers : r .reached ≡ at + lengthOf (r .packets)
   ends :
       ((r .reached ≡ end) × (r .refusal ≡ noRefusal))
-      ⊎ ((told (readPacket buf (r .reached) end) .refusal ≡ r .refusal) × (r .refusal .number ≢ 0) × (r .reached < end))
+      ⊎ ((packetTold (readPacket buf (r .reached) end) .refusal ≡ r .refusal) × (r .refusal .number ≢ 0) × (r .reached < end))
 
 module _ (buf : List ℕ) (end : ℕ) where
   -- a refusal of the reader has a number
   numbered : (at : ℕ) (r : Refusal) → readPacket buf at end ≡ Refused r → r .number ≢ 0
   numbered at r q z =
-      let p = read-told buf at end (ap (λ (x : PacketRead). told x .refusal .number) q ∙ z) in
+      let p = read-told buf at end (ap (λ (x : PacketRead). packetTold x .refusal .number) q ∙ z) in
       let contrary : _≡_ {A = ℕ} 0 1 = cc (sym q ∙ p) in
       omega arith
 
@@ -62,7 +62,7 @@ module _ (buf : List ℕ) (end : ℕ) where
       record {
         each = λ i l. absurd (omega arith);
         covers = sym (add-zero at);
-        ends = inr (ap (λ (x : PacketRead). told x .refusal) q, numbered at r q, h);
+        ends = inr (ap (λ (x : PacketRead). packetTold x .refusal) q, numbered at r q, h);
       }
 
   handed-on : (at : ℕ) (p : Packet) (r : Reading) → readPacket buf at end ≡ Accepted p → HandedFrom buf (at + p .length) end r
@@ -71,7 +71,7 @@ module _ (buf : List ℕ) (end : ℕ) where
   handed-on at p r q h = record { each = go; covers = h .covers ∙ add-assoc at (p .length) (lengthOf (r .packets)); ends = h .ends }
     where
       go : (i : ℕ) → i < suc (length (r .packets))
-          → told (readPacket buf (at + lengthOf (take i (p ∷ r .packets))) end) ≡ accepted (getD (p ∷ r .packets) i noPacket)
+          → packetTold (readPacket buf (at + lengthOf (take i (p ∷ r .packets))) end) ≡ accepted (getD (p ∷ r .packets) i noPacket)
       go zero l = rw (add-zero at, q)
       go (suc i) l = rw (← add-assoc at (p .length) (lengthOf (take i (r .packets)))) (h .each i (omega arith))
 
@@ -83,19 +83,19 @@ module _ (buf : List ℕ) (end : ℕ) where
           → (b : Bool) (x : PacketRead) → leb end at ≡ b → readPacket buf at end ≡ x → HandedFrom buf at end (from buf at end)
       go f true x l q = let over = leb-true end at l in rw (from-end buf at end over) (handed-end at (omega arith))
       go f false (Accepted p) l q =
-          let k = fits buf at end p q in
+          let k = accepted-fits buf at end p q in
           rw (from-on buf at end p (leb-false end at l) q) (handed-on at p _ q (f (at + p .length) (omega arith) (k .within)))
       go f false (Refused r) l q = rw (from-stops buf at end r (leb-false end at l) q) (handed-stops at r (leb-false end at l) q)
 
 -- whatever is handed out so is what is read
 module _ (buf : List ℕ) (end : ℕ) where
-  accepted-here : (at : ℕ) (p : Packet) → told (readPacket buf at end) ≡ accepted p → readPacket buf at end ≡ Accepted p
-  accepted-here at p h = read-told buf at end (ap (λ (t : Told). t .refusal .number) h) ∙ ap (λ (t : Told). Accepted (t .packet)) h
+  accepted-here : (at : ℕ) (p : Packet) → packetTold (readPacket buf at end) ≡ accepted p → readPacket buf at end ≡ Accepted p
+  accepted-here at p h = read-told buf at end (ap (λ (t : PacketTold). t .refusal .number) h) ∙ ap (λ (t : PacketTold). Accepted (t .packet)) h
 
-  refused-here : (at : ℕ) (r : Refusal) → told (readPacket buf at end) .refusal ≡ r → r .number ≢ 0 → readPacket buf at end ≡ Refused r
+  refused-here : (at : ℕ) (r : Refusal) → packetTold (readPacket buf at end) .refusal ≡ r → r .number ≢ 0 → readPacket buf at end ≡ Refused r
   refused-here at r h n = go (readPacket buf at end) h
     where
-      go : (x : PacketRead) → told x .refusal ≡ r → x ≡ Refused r
+      go : (x : PacketRead) → packetTold x .refusal ≡ r → x ≡ Refused r
       go (Accepted p) q = absurd (n (sym (ap (λ (f : Refusal). f .number) q)))
       go (Refused f) q = ap Refused q
 
@@ -112,7 +112,7 @@ module _ (buf : List ℕ) (end : ℕ) where
       (h .ends)
   handed-once (p ∷ ps) at reached r h =
       let q = accepted-here at p (rw (add-zero at) at (h .each 0 (omega arith))) in
-      let k = fits buf at end p q in
+      let k = accepted-fits buf at end p q in
       rw (from-on buf at end p (omega arith) q)
       (ap (λ (x : Reading). ahead p x)
       (handed-once ps (at + p .length) reached r
@@ -153,7 +153,7 @@ module _ (buf : List ℕ) (s e : ℕ) where
         covers = sym (add-zero s);
         ends =
             inr (
-              ap (λ (x : PacketRead). told x .refusal) (read-outside o),
+              ap (λ (x : PacketRead). packetTold x .refusal) (read-outside o),
               (λ (z : _≡_ {A = ℕ} 1 0). omega arith),
               λ t. absurd (true≢false (sym t ∙ o)),
             );

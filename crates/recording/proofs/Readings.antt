@@ -1,4 +1,4 @@
--- The laws of reading a recording from a place on, and of the loop that counts its packets. Assumes nothing.
+-- The laws of reading a recording from a place on, and of the loop that counts its packets.
 use mathlib.Core.Path.{_≡_, refl, sym, ap, _∙_}
 use mathlib.Core.List.{List}
 use mathlib.Core.Bool.{Bool, true, false}
@@ -12,13 +12,13 @@ use Rattle.units.specs.Choice.{pick}
 use Rattle.body.specs.Walk.{refused}
 use Rattle.body.specs.declared.Refusal.{Refusal}
 use Rattle.packet.specs.Read.{inside, readPacket, noRefusal}
-use Rattle.packet.specs.Inner.{passOf}
+use Rattle.packet.specs.inner.Passes.{passOf}
 use Rattle.packet.specs.declared.Packet.{Packet}
 use Rattle.packet.specs.declared.PacketRead.{PacketRead}
 use Rattle.packet.specs.declared.PacketRead.the-variants.{Accepted, Refused}
 use Rattle.packet.specs.declared.PacketPass.the-variants.{Passed}
 use Rattle.packet.proofs.Answers.{passed-is}
-use Rattle.packet.proofs.Own.{fits}
+use Rattle.packet.proofs.Own.{accepted-fits}
 use Rattle.recording.specs.Reading.{Reading, stopped, ahead, onward, readFrom, reading, readRecording}
 use Rattle.recording.specs.declared.Recording.{Recording}
 
@@ -42,7 +42,7 @@ turns-enough (suc m) (suc n) buf at end hm hn = go (λ next. turns-enough m n bu
         ≡ pick t (stopped at noRefusal) (onward (readPacket buf at end) at (λ p. readFrom n buf (at + p .length) end))
     go same true t = refl
     go same false t = onward-same (readPacket buf at end) at _ _ λ p q.
-        let k = fits buf at end p q in
+        let k = accepted-fits buf at end p q in
         same (at + p .length) (omega arith) (omega arith)
 
 -- what is read from `at` on, in turns enough
@@ -60,7 +60,7 @@ module _ (buf : List ℕ) (at end : ℕ) where
   pub from-on : (p : Packet) → at < end → readPacket buf at end ≡ Accepted p → from buf at end ≡ ahead p (from buf (at + p .length) end)
   unfolding readFrom
   from-on p h q =
-      let k = fits buf at end p q in
+      let k = accepted-fits buf at end p q in
       from-step ∙ rw (lt-leb end at h, q)
       (ap (λ (r : Reading). ahead p r) (turns-enough (end - at) (end - (at + p .length)) buf (at + p .length) end (omega arith) (omega arith)))
 
@@ -91,33 +91,33 @@ module _ (buf : List ℕ) (start end : ℕ) where
 -- ---- the loop
 
 -- the answer where n packets are counted and r is read from there on
-abbrev pub counted : ℕ → Reading → Recording
-counted n r = record { accepted = n + length (r .packets); reached = r .reached; refusal = r .refusal }
+abbrev pub tallied : ℕ → Reading → Recording
+tallied n r = record { accepted = n + length (r .packets); reached = r .reached; refusal = r .refusal }
 
 -- what holds at its head: no more packets than bytes, and n of them counted
-pub record Counting (buf : List ℕ) (start end n at : ℕ) : Type 0 where
+pub record Tally (buf : List ℕ) (start end n at : ℕ) : Type 0 where
   pub within : at ≤ end
   pub fewer : start + n ≤ at
-  pub answer : readRecording buf start end ≡ counted n (from buf at end)
+  pub answer : readRecording buf start end ≡ tallied n (from buf at end)
 
 module _ (buf : List ℕ) (start end : ℕ) where
-  recording-counted : (r : Reading) → reading buf start end ≡ r → readRecording buf start end ≡ counted 0 r
+  recording-tallied : (r : Reading) → reading buf start end ≡ r → readRecording buf start end ≡ tallied 0 r
   unfolding readRecording
-  recording-counted r q = rw q (λ i. record { accepted = sym (zero-add (length (r .packets))) i; reached = r .reached; refusal = r .refusal })
+  recording-tallied r q = rw q (λ i. record { accepted = sym (zero-add (length (r .packets))) i; reached = r .reached; refusal = r .refusal })
 
   -- r is the code's refusal
   pub recording-outside : (r : Refusal) → inside buf start end ≡ false → r ≡ refused 1 start 0
       → record { accepted = 0; reached = start; refusal = r } ≡ readRecording buf start end
-  recording-outside r i q = rw q (sym (recording-counted _ (reading-outside buf start end i)))
+  recording-outside r i q = rw q (sym (recording-tallied _ (reading-outside buf start end i)))
 
-  pub counting-first : start ≤ end → end ≤ length buf → Counting buf start end 0 start
-  counting-first h within =
-      record { within = h; fewer = omega arith; answer = recording-counted _ (reading-inside buf start end (inside-of buf start end h within)) }
+  pub tally-first : start ≤ end → end ≤ length buf → Tally buf start end 0 start
+  tally-first h within =
+      record { within = h; fewer = omega arith; answer = recording-tallied _ (reading-inside buf start end (inside-of buf start end h within)) }
 
-  module _ (n at : ℕ) (c : Counting buf start end n at) where
-    pub counting-on : (p : Packet) → at < end → readPacket buf at end ≡ Accepted p → Counting buf start end (n + 1) (at + p .length)
-    counting-on p h q =
-        let k = fits buf at end p q in
+  module _ (n at : ℕ) (c : Tally buf start end n at) where
+    pub tally-on : (p : Packet) → at < end → readPacket buf at end ≡ Accepted p → Tally buf start end (n + 1) (at + p .length)
+    tally-on p h q =
+        let k = accepted-fits buf at end p q in
         let r = from buf (at + p .length) end in
         let one-more : n + suc (length (r .packets)) ≡ n + 1 + length (r .packets) = omega arith in
         record {
@@ -127,15 +127,15 @@ module _ (buf : List ℕ) (start end : ℕ) where
         }
 
     -- a packet that passes, by its length
-    pub counting-passed : (p : ℕ) → at < end → Passed p ≡ passOf (readPacket buf at end) → Counting buf start end (n + 1) (at + p) × (at < at + p) × (at + p ≤ end)
-    counting-passed p h e =
+    pub tally-passed : (p : ℕ) → at < end → Passed p ≡ passOf (readPacket buf at end) → Tally buf start end (n + 1) (at + p) × (at < at + p) × (at + p ≤ end)
+    tally-passed p h e =
         let (q, a, l) = passed-is (readPacket buf at end) p e in
-        let k = fits buf at end q a in
-        rw l (counting-on q h a, omega (arith, k .some), k .within)
+        let k = accepted-fits buf at end q a in
+        rw l (tally-on q h a, omega (arith, k .some), k .within)
 
-    pub counting-stops : (r : Refusal) → at < end → readPacket buf at end ≡ Refused r
+    pub tally-stops : (r : Refusal) → at < end → readPacket buf at end ≡ Refused r
         → record { accepted = n; reached = at; refusal = r } ≡ readRecording buf start end
-    counting-stops r h q = sym (c .answer ∙ rw (from-stops buf at end r h q, add-zero n))
+    tally-stops r h q = sym (c .answer ∙ rw (from-stops buf at end r h q, add-zero n))
 
-    pub counting-end : (r : Refusal) → end ≤ at → r ≡ noRefusal → record { accepted = n; reached = at; refusal = r } ≡ readRecording buf start end
-    counting-end r h q = sym (c .answer ∙ rw (from-end buf at end h, add-zero n, q))
+    pub tally-end : (r : Refusal) → end ≤ at → r ≡ noRefusal → record { accepted = n; reached = at; refusal = r } ≡ readRecording buf start end
+    tally-end r h q = sym (c .answer ∙ rw (from-end buf at end h, add-zero n, q))

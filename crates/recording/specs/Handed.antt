@@ -5,7 +5,7 @@ use mathlib.Core.Bool.{true}
 use mathlib.Core.Logic.{_⊎_, _≢_}
 use Prim.Native.Nat.{ℕ, _+_, _<_}
 use lib.ListN.{length, take, getD}
-use Rattle.packet.specs.Read.{inside, readPacket, noRefusal, noPacket, told}
+use Rattle.packet.specs.Read.{inside, readPacket, noRefusal, noPacket, packetTold}
 use Rattle.packet.specs.declared.Packet.{Packet}
 use Rattle.recording.specs.declared.Recording.{Recording}
 
@@ -19,10 +19,10 @@ pub record HandsOut (buf : List ℕ) (start end : ℕ) (r : Recording) (ps : Lis
   -- the number is exactly how many
   pub number : r .accepted ≡ length ps
   -- the one-packet reader, at each of those places with the same end, gives that packet
-  pub each : (i : ℕ) → i < length ps → told (readPacket buf (start + lengthOf (take i ps)) end) ≡ record { refusal = noRefusal; packet = getD ps i noPacket }
+  pub each : (i : ℕ) → i < length ps → packetTold (readPacket buf (start + lengthOf (take i ps)) end) ≡ record { refusal = noRefusal; packet = getD ps i noPacket }
   -- the lengths of the accepted packets add up to the distance covered
   pub covers : r .reached ≡ start + lengthOf ps
   -- and there is the end of a window in its buffer, and no refusal, or the reader refuses, with that refusal
   pub ends :
       ((inside buf start end ≡ true) × (r .reached ≡ end) × (r .refusal ≡ noRefusal))
-      ⊎ ((told (readPacket buf (r .reached) end) .refusal ≡ r .refusal) × (r .refusal .number ≢ 0) × (inside buf start end ≡ true → r .reached < end))
+      ⊎ ((packetTold (readPacket buf (r .reached) end) .refusal ≡ r .refusal) × (r .refusal .number ≢ 0) × (inside buf start end ≡ true → r .reached < end))

@@ -1,4 +1,4 @@
--- Laws of choices: a test of the code, b, is the choice's test, t. Assumes nothing.
+-- Laws of choices: a test of the code, b, is the choice's test, t.
 use mathlib.Core.Path.{_≡_, refl, sym, subst}
 use mathlib.Core.Bool.{Bool, true, false, _&&_, _||_}
 use mathlib.Core.Logic.{_⊎_, inl, inr}

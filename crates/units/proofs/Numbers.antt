@@ -1,4 +1,4 @@
--- Laws of numbers and their bytes, each over the width. Assumes nothing.
+-- Laws of numbers and their bytes, each over the width.
 use mathlib.Core.Path.{_≡_, refl, sym, ap, _∙_}
 use mathlib.Core.List.{List, [], _∷_, _++_}
 use mathlib.Core.Bool.{Bool, true, false, _&&_}
@@ -37,12 +37,6 @@ bytes-take n xs h = bytes-left (take n xs) (drop n xs) (rw take-append-drop h)
 
 pub bytes-drop : (n : ℕ) (xs : List ℕ) → Bytes xs → Bytes (drop n xs)
 bytes-drop n xs h = bytes-right (take n xs) (drop n xs) (rw take-append-drop h)
-
--- from what a slice's rule says of each index
-pub bytes-from : (xs : List ℕ) → ((i : ℕ) → i < length xs → getD xs i 0 < 256) → Bytes xs
-unfolding Bytes
-bytes-from [] h = tt
-bytes-from (x ∷ xs) h = (h 0 (omega arith), bytes-from xs (λ i l. h (suc i) (omega arith)))
 
 -- ---- a number and its bytes, both ways
 

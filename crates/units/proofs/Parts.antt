@@ -1,11 +1,11 @@
--- Laws of parts and fields. Assumes nothing.
+-- Laws of parts and fields.
 use mathlib.Core.Path.{_≡_, refl, sym, ap, subst, _∙_}
 use mathlib.Core.List.{List, [], _∷_, _++_}
 use Prim.Native.Nat.{ℕ, zero, suc, _+_, _-_, _*_, _^_, _≤_, _<_}
 use native.Mathlib.Omega.{arith}
 use native.Mathlib.Nat.{zero-add, add-zero, pow-succ', mul-assoc, suc-sub-suc, zero-sub, sub-zero, suc-add}
 use lib.ListN.{length, take, drop, getD, length-take, length-drop}
-use lib.Seq.{take-length, take-take, take-add, drop-drop, take-append-le, drop-append-le, drop-append-add, take-at, drop-at, take-nil, drop-nil}
+use lib.Seq.{take-length, take-take, take-add, drop-drop, take-append-le, drop-append-le, take-at, drop-at, take-nil, drop-nil}
 use Rattle.units.specs.Units.{Bytes, part, num, field, bytesOf}
 use Rattle.units.proofs.Numbers.{bytes-take, bytes-drop, bytesOf-num, num-lt}
 
@@ -43,9 +43,6 @@ part-front xs ys at n h =
     let j : n ≤ length (drop at xs) = simp length-drop (omega arith) in
     rw (drop-append-le, take-append-le)
 
-pub part-behind : (xs ys : List ℕ) (at n : ℕ) → part (xs ++ ys) (length xs + at) n ≡ part ys at n
-part-behind xs ys at n = rw drop-append-add
-
 -- what stands between p and r
 pub part-at : (w p x r : List ℕ) (at n : ℕ) → w ≡ p ++ (x ++ r) → length p ≡ at → length x ≡ n → part w at n ≡ x
 part-at w p x r at n e lp lx = rw (e, drop-at p (x ++ r) at lp) (take-at x r n lx)
@@ -57,9 +54,6 @@ field-part bs a n b m h = ap num (part-part bs a n b m h)
 
 pub field-front : (xs ys : List ℕ) (at n : ℕ) → at + n ≤ length xs → field (xs ++ ys) at n ≡ field xs at n
 field-front xs ys at n h = ap num (part-front xs ys at n h)
-
-pub field-behind : (xs ys : List ℕ) (at n : ℕ) → field (xs ++ ys) (length xs + at) n ≡ field ys at n
-field-behind xs ys at n = ap num (part-behind xs ys at n)
 
 pub field-zero : (bs : List ℕ) (at : ℕ) → field bs at 0 ≡ 0
 unfolding num

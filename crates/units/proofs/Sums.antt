@@ -1,4 +1,4 @@
--- Laws of sums of units, each over the width, and THE fact: one unit replaced by a different one makes the sum wrong. Assumes nothing.
+-- Laws of sums of units, each over the width, and THE fact: one unit replaced by a different one makes the sum wrong.
 use mathlib.Core.Path.{_≡_, sym, ap, _∙_}
 use mathlib.Core.List.{List, [], _∷_, _++_, append-assoc}
 use mathlib.Core.Bool.{true, false}

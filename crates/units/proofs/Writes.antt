@@ -1,12 +1,12 @@
--- Laws of what is written: `splice`, runs of writes, and a loop that writes a byte a turn. Assumes nothing.
+-- Laws of what is written: `splice`, runs of writes, and a loop that writes a byte a turn.
 use mathlib.Core.Path.{_≡_, refl, sym, ap, _∙_}
 use mathlib.Core.List.{List, [], _++_, append-assoc, append-nil}
-use Prim.Native.Nat.{ℕ, _+_, _-_, _%_, _/_, _^_, _≤_, _<_}
+use Prim.Native.Nat.{ℕ, _+_, _%_, _/_, _^_, _≤_, _<_}
 use native.Mathlib.Omega.{arith}
-use native.Mathlib.Nat.{add-assoc, add-zero}
+use native.Mathlib.Nat.{add-zero}
 use native.Mathlib.Numerals.{add-one}
-use lib.ListN.{length, take, drop, getD, set, length-append, length-take, length-drop, take-append-drop}
-use lib.Seq.{paste, paste-suc, take-length, sets, sets-eq, length-take-le, take-take, drop-drop, take-add, drop-append-le, take-at, drop-at}
+use lib.ListN.{length, take, drop, getD, set, length-append, length-drop, take-append-drop}
+use lib.Seq.{paste, paste-suc, take-length, sets, sets-eq, length-take-le, drop-drop, take-at, drop-at}
 use Rattle.units.specs.Units.{part, bytesOf, splice}
 use Rattle.units.proofs.Numbers.{length-bytesOf, bytesOf-add, bytesOf-mod}
 use Rattle.units.proofs.Parts.{part-front}
@@ -40,16 +40,6 @@ module _ (bs : List ℕ) (at : ℕ) (vs : List ℕ) (fits : at + length vs ≤ l
       (part-front (take at bs) (vs ++ drop (at + length vs) bs) b m k
       ∙ sym (part-front (take at bs) (drop at bs) b m k)
       ∙ ap (λ (l : List ℕ). part l b m) (take-append-drop at bs))
-
-  pub part-splice-behind : (b m : ℕ) → at + length vs ≤ b → part (splice bs at vs) b m ≡ part bs b m
-  part-splice-behind b m h =
-      let e : at + length vs + (b - (at + length vs)) ≡ b = omega arith in
-      ap (λ (l : List ℕ). take m l)
-      (ap (λ (n : ℕ). drop n (splice bs at vs)) (sym e)
-      ∙ sym (drop-drop (b - (at + length vs)) (at + length vs) (splice bs at vs))
-      ∙ ap (drop (b - (at + length vs))) drop-splice
-      ∙ drop-drop (b - (at + length vs)) (at + length vs) bs
-      ∙ ap (λ (n : ℕ). drop n bs) e)
 
   -- a write right behind another is one write
   pub splice-splice : (next : ℕ) (us : List ℕ) → next ≡ at + length vs → next + length us ≤ length bs
@@ -90,17 +80,3 @@ paste-step d at s i v h l e = rw (add-one, ← e) (paste-suc d at s i 0 (omega a
 
 pub paste-whole : (d : List ℕ) (at : ℕ) (s : List ℕ) (i : ℕ) → i ≡ length s → paste d at s i ≡ splice d at s
 paste-whole d at s i e = rw e (ap (λ (l : List ℕ). take at d ++ l ++ drop (at + length s) d) (take-length s))
-
--- what is written in a part, when the part is back in the whole
-pub splice-part : (bs : List ℕ) (a k at : ℕ) (vs : List ℕ) → a + k ≤ length bs → at + length vs ≤ k
-    → take a bs ++ (splice (part bs a k) at vs ++ drop k (drop a bs)) ≡ splice bs (a + at) vs
-splice-part bs a k at vs h l =
-    let j : at ≤ k = omega arith in
-    let n : at + length vs ≤ length (take k (drop a bs)) = simp (length-take, length-drop) (omega arith) in
-    let start : take at (take k (drop a bs)) ≡ take at (drop a bs) = take-take at k (drop a bs) j in
-    let back : drop (at + length vs) (take k (drop a bs)) ++ drop k (drop a bs) ≡ drop (a + at + length vs) bs =
-    sym (drop-append-le (at + length vs) (take k (drop a bs)) (drop k (drop a bs)) n)
-    ∙ ap (drop (at + length vs)) (take-append-drop k (drop a bs))
-    ∙ drop-drop (at + length vs) a bs
-    ∙ ap (λ (m : ℕ). drop m bs) (sym (add-assoc a at (length vs))) in
-    rw (start, take-add a at bs, ← back) (simp append-assoc)

@@ -9,7 +9,7 @@ use generate::recipe::{Placed, Recipe};
 
 /// What lent lists and buffers are full of beforehand.
 const PATTERN: u8 = 0xA5;
-const LIST_PATTERN: u32 = 0xA5A5_A5A5;
+pub const LIST_PATTERN: u32 = 0xA5A5_A5A5;
 
 /// Bytes or entries on both sides of what is lent, which a call must leave alone.
 const MARGIN: usize = 4;
@@ -19,10 +19,16 @@ pub fn describe(window: &Placed) -> String {
     format!("start {} end {} of {}", start, end, hex(&window.buf))
 }
 
+/// The number that a call returns is the one in its struct.
+fn returned(tally: &mut Tally, input: &dyn Fn() -> String, number: u64, refusal: &Refusal) {
+    tally.require("the number returned", input, &number, &refusal.number);
+}
+
 pub fn read(tally: &mut Tally, window: &Placed) -> (u64, Packet) {
     let answer = library::read_packet(window);
     let wanted = expected::read_packet(window);
     tally.compare(&READ, &|| describe(window), &answer, &wanted);
+    returned(tally, &|| describe(window), answer.0, &answer.1.refusal);
     if answer.0 == 0 {
         tally.accepted(answer.1.fields.kind, answer.1.fields.flags);
     }
@@ -41,19 +47,29 @@ pub fn list_by(call: ListCall, window: &Placed, starts: usize, lengths: usize) -
     (number, (list, first, second))
 }
 
-/// The lister, with lists of these lengths; those of a refused call are untouched.
-pub fn list(tally: &mut Tally, window: &Placed, starts: usize, lengths: usize) -> (u64, List) {
+/// The lister, with lists of these lengths; entries past the count are untouched, and those of a refused call all are. Answers both
+/// lists too.
+pub fn list(
+    tally: &mut Tally,
+    window: &Placed,
+    starts: usize,
+    lengths: usize,
+) -> (List, [Vec<u32>; 2]) {
     let answer = list_by(library::list_messages, window, starts, lengths);
     let wanted = list_by(expected::list_messages, window, starts, lengths);
     let input = || format!("lists of {} and {}; {}", starts, lengths, describe(window));
     tally.compare(&LIST, &input, &answer, &wanted);
     let (number, (list, first, second)) = answer;
-    if number != 0 {
-        let untouched = |entry: &u32| *entry == LIST_PATTERN;
-        let kept = first.iter().chain(&second).all(untouched);
-        tally.require("lists after a refusal", &input, &kept, &true);
-    }
-    (number, list)
+    returned(tally, &input, number, &list.refusal);
+    let kept = |list_of: &[u32]| {
+        let told = MARGIN..MARGIN + list.count as usize;
+        let mut entries = list_of.iter().enumerate();
+        entries.all(|(at, entry)| told.contains(&at) || *entry == LIST_PATTERN)
+    };
+    let both = (kept(&first), kept(&second));
+    tally.require("entries past the count", &input, &both, &(true, true));
+    let lent = |list: Vec<u32>| list[MARGIN..list.len() - MARGIN].to_vec();
+    (list, [lent(first), lent(second)])
 }
 
 pub fn message(tally: &mut Tally, window: &Placed, number: usize) -> (u64, Message) {
@@ -61,6 +77,7 @@ pub fn message(tally: &mut Tally, window: &Placed, number: usize) -> (u64, Messa
     let wanted = expected::message(window, number);
     let input = || format!("message {}; {}", number, describe(window));
     tally.compare(&ONE_MESSAGE, &input, &answer, &wanted);
+    returned(tally, &input, answer.0, &answer.1.refusal);
     answer
 }
 
@@ -68,6 +85,7 @@ pub fn recording(tally: &mut Tally, window: &Placed) -> (u64, Recording) {
     let answer = library::read_recording(window);
     let wanted = expected::read_recording(window);
     tally.compare(&RECORDING, &|| describe(window), &answer, &wanted);
+    returned(tally, &|| describe(window), answer.0, &answer.1.refusal);
     answer
 }
 
@@ -89,7 +107,7 @@ pub fn messages(tally: &mut Tally, random: &mut Random, window: &Placed) -> [Ref
         _ => count,
     };
     let (starts, lengths) = (around(), around());
-    let (_, listed) = list(tally, window, starts, lengths);
+    let (listed, _) = list(tally, window, starts, lengths);
     let inside = random.index(count.max(1));
     let number = random.choose(&[
         0,
@@ -110,28 +128,31 @@ pub fn window(tally: &mut Tally, random: &mut Random, window: &Placed) -> (u64, 
     let [listed, given] = messages(tally, random, window);
     let (_, recorded) = recording(tally, window);
     let (number, packet) = read(tally, window);
+    let empty = number == 2 && window.start == window.end;
+    let of_recording = if empty {
+        Refusal::default()
+    } else {
+        packet.refusal
+    };
+    let input = || describe(window);
     if number != 0 {
-        let empty = number == 2 && window.start == window.end;
-        let of_recording = if empty {
-            Refusal::default()
-        } else {
-            packet.refusal
-        };
-        tally.require(
-            "one refusal from all readers",
-            &|| describe(window),
-            &[listed, given, recorded.refusal],
-            &[packet.refusal, packet.refusal, of_recording],
-        );
+        let refusals = [listed, given, recorded.refusal];
+        let wanted = [packet.refusal, packet.refusal, of_recording];
+        tally.require("one refusal from all readers", &input, &refusals, &wanted);
+    } else {
+        let accepted = [0, 16].contains(&listed.number)
+            && [0, 17].contains(&given.number)
+            && recorded.accepted > 0;
+        tally.require("accepted by all readers", &input, &accepted, &true);
     }
     (number, packet)
 }
 
 type WriteCall = fn(&Fields, &[u8], &mut [u8]) -> (u64, Written);
 
-/// The writer on these fields and this body, with an output of this length; the whole output is compared, with a margin, and that of a
-/// refused call is untouched. Answers the number and the packet.
-pub fn write(tally: &mut Tally, fields: &Fields, body: &[u8], room: usize) -> (u64, Vec<u8>) {
+/// The writer on these fields and this body, with an output of this length; the whole output is compared, with a margin, and untouched
+/// behind the packet, that of a refused call all of it. Answers the packet too.
+pub fn write(tally: &mut Tally, fields: &Fields, body: &[u8], room: usize) -> (Written, Vec<u8>) {
     let run = |call: WriteCall| {
         let mut out = vec![PATTERN; room + 2 * MARGIN];
         let (number, written) = call(fields, body, &mut out[MARGIN..MARGIN + room]);
@@ -141,17 +162,19 @@ pub fn write(tally: &mut Tally, fields: &Fields, body: &[u8], room: usize) -> (u
     let answer = run(library::write_packet);
     tally.compare(&WRITE, &input, &answer, &run(expected::write_packet));
     let (number, (written, mut out)) = answer;
-    if number != 0 {
-        let kept = out.iter().all(|byte| *byte == PATTERN);
-        tally.require("output after a refusal", &input, &kept, &true);
-    }
-    out.truncate(MARGIN + written.length as usize);
-    (number, out.split_off(MARGIN))
+    returned(tally, &input, number, &written.refusal);
+    let packet = MARGIN..MARGIN + written.length as usize;
+    let mut bytes = out.iter().enumerate();
+    let kept = bytes.all(|(at, byte)| packet.contains(&at) || *byte == PATTERN);
+    tally.require("output outside the packet", &input, &kept, &true);
+    out.truncate(packet.end);
+    (written, out.split_off(MARGIN))
 }
 
 /// The writer on a recipe's fields and body.
 pub fn write_recipe(tally: &mut Tally, recipe: &Recipe, room: usize) -> u64 {
-    write(tally, &fields_of(recipe), &recipe.body, room).0
+    let (written, _) = write(tally, &fields_of(recipe), &recipe.body, room);
+    written.refusal.number
 }
 
 pub fn fields_of(recipe: &Recipe) -> Fields {
@@ -171,13 +194,13 @@ pub fn write_again(tally: &mut Tally, window: &Placed, packet: &Packet, more: us
     let body_at = packet.body.at as usize;
     let body = &window.buf[body_at..body_at + packet.body.length as usize];
     let length = packet.length as usize;
-    let written = write(tally, &packet.fields, body, length + more);
-    let same = (0, window.buf[window.start..window.start + length].to_vec());
+    let (answer, written) = write(tally, &packet.fields, body, length + more);
+    let same = window.buf[window.start..window.start + length].to_vec();
     tally.require(
         "a packet written again",
         &|| describe(window),
-        &written,
-        &same,
+        &(answer.refusal.number, written),
+        &(0, same),
     );
 }
 
@@ -219,6 +242,7 @@ pub fn step(tally: &mut Tally, draft: Draft, buf: &[u8], step: &Step) -> (u64, D
     let answer = (number, (after, ours));
     tally.compare(call, &input, &answer, &(wanted.0, (wanted.1, theirs)));
     let (_, (_, ours)) = answer;
+    returned(tally, &input, number, &after.refusal);
     let built = ours[lent].to_vec();
     if number != 0 {
         let refusal = after.refusal;

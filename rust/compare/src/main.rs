@@ -2,8 +2,8 @@
 //! the systematic inputs, then through rounds by chance until at least CALLS calls are compared.
 
 mod bodies;
-mod both_sides;
 mod building;
+mod cases;
 mod check;
 mod elsewhere;
 mod expected;

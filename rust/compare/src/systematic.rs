@@ -2,7 +2,7 @@
 //! causes, every alteration and cut of small packets, and the fields whose rules are at their limits.
 
 use crate::tally::Tally;
-use crate::{bodies, both_sides, building, check, elsewhere, large};
+use crate::{bodies, building, cases, check, elsewhere, large};
 use generate::causes::{causes, with_faults, Cause};
 use generate::opened::{MESSAGE, UART};
 use generate::random::Random;
@@ -13,7 +13,7 @@ type Part = fn(&mut Tally, &mut Random);
 
 pub fn all(tally: &mut Tally, random: &mut Random) {
     let parts: [Part; 15] = [
-        both_sides::all,
+        cases::all,
         windows,
         types_and_flags,
         field_values,

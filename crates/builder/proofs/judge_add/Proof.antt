@@ -1,6 +1,6 @@
 use Prim.Native.Nat.{ℕ}
 use Rattle.builder.proofs.Drafts.{draft-facts, block-facts}
-use Rattle.builder.specs.Build.{denied, added, addStep}
+use Rattle.builder.specs.Build.{denied, draftAdded, addStep}
 use borrow.Author.Tests.{lt-ltb, le-ltb}
 use Rattle.units.proofs.Choices.{chosen, skipped}
 use native.Mathlib.Omega.{arith}
@@ -61,7 +61,7 @@ returns-5 c =
     (chosen _ _ refl (rw e at (lt-ltb _ _ (c .before .if5 .taken)))))))
 
 returns-6 : tie.Need-returns-6
-unfolding addStep added
+unfolding addStep draftAdded
 returns-6 c =
     let e = c .before .before .used-after .ensures in
     skipped _ _ _ (c .before .before .before .before .before .before .before .before .before .before .bad-draft .ensures) (c .before .before .before .before .before .before .before .before .before .if1 .left)

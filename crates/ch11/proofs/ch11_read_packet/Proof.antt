@@ -1,7 +1,7 @@
-use mathlib.Core.Path.{refl, sym, ap, _∙_}
+use mathlib.Core.Path.{sym, ap, _∙_}
 use lib.ListN.{getD}
 use borrow.Author.Needs.{needs}
-use Rattle.packet.specs.Read.{told}
+use Rattle.packet.specs.Read.{packetTold}
 use Rattle.ch11.specs.Words.{packetWords}
 use Rattle.ch11.proofs.ch11_read_packet.Statement.{statement}
 use Rattle.ch11.proofs.ch11_read_packet.Tie as tie
@@ -10,14 +10,14 @@ returns : tie.Need-returns
 unfolding packetWords
 returns c =
     let read = sym (c .before .before .p .given .1) ∙ c .before .before .before .before .read-packet .ensures in
-    (c .packet-words .ensures ∙ ap (λ a. packetWords (told a)) read, sym (ap (λ ws. getD ws 0 0) (c .packet-words .ensures)))
+    (c .packet-words .ensures ∙ ap (λ a. packetWords (packetTold a)) read, sym (ap (λ ws. getD ws 0 0) (c .packet-words .ensures)))
 
 returns-2 : tie.Need-returns-2
 unfolding packetWords
 returns-2 c =
     let words = c .before in
     let read = sym (words .before .before .f .given .1) ∙ words .before .before .before .before .read-packet .ensures in
-    (words .refused-words .ensures ∙ ap (λ a. packetWords (told a)) read, sym (ap (λ ws. getD ws 0 0) (words .refused-words .ensures)))
+    (words .refused-words .ensures ∙ ap (λ a. packetWords (packetTold a)) read, sym (ap (λ ws. getD ws 0 0) (words .refused-words .ensures)))
 
 pub ch11-read-packet-spec : {M : Type 1} → statement M
 ch11-read-packet-spec =

@@ -1,7 +1,7 @@
 use mathlib.Core.Path.{refl, ap, _∙_}
 use native.Mathlib.Omega.{arith}
 use borrow.Author.Needs.{needs}
-use Rattle.packet.specs.Inner.{passOf}
+use Rattle.packet.specs.inner.Passes.{passOf}
 use Rattle.packet.proofs.Answers.{outer-inside, opened, read-refused, read-on}
 use Rattle.packet.proofs.pass_packet.Statement.{statement}
 use Rattle.packet.proofs.pass_packet.Tie as tie

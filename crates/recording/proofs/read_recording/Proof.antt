@@ -4,13 +4,13 @@ use mathlib.Core.Logic.{⊎-elim}
 use Rattle.packet.proofs.Answers.{barred-is}
 use Prim.Native.Nat.{_-_}
 use native.Mathlib.Omega.{arith}
-use Rattle.recording.proofs.Readings.{Counting, outside-disordered, outside-past, recording-outside, counting-first, counting-passed, counting-stops, counting-end}
+use Rattle.recording.proofs.Readings.{Tally, outside-disordered, outside-past, recording-outside, tally-first, tally-passed, tally-stops, tally-end}
 use borrow.Author.Needs.{needs}
 use Rattle.recording.proofs.read_recording.Statement.{statement}
 use Rattle.recording.proofs.read_recording.Tie as tie
 
 abbrev Inv-loop : tie.InvT-loop
-Inv-loop buf start end accepted₀ at₀ accepted at = Counting buf start end accepted at
+Inv-loop buf start end accepted₀ at₀ accepted at = Tally buf start end accepted at
 
 abbrev μ-loop : tie.MeasureT-loop
 μ-loop buf start end accepted₀ at₀ accepted at = end - at
@@ -24,7 +24,7 @@ returns c =
     (c .refuse .ensures)
 
 loop-holds : tie.Need-loop-holds Inv-loop μ-loop
-loop-holds c = counting-first _ _ _ (c .before .if1 .left) (ltb-false _ _ (c .if2 .left))
+loop-holds c = tally-first _ _ _ (c .before .if1 .left) (ltb-false _ _ (c .if2 .left))
 
 pass-packet-requires : tie.Need-pass-packet-requires Inv-loop μ-loop
 pass-packet-requires c κs = (omega arith, ltb-false _ _ (c .before .before .if2 .left))
@@ -33,7 +33,7 @@ add-at : tie.Need-add-at Inv-loop μ-loop
 add-at c =
     let after-read = c .before .before .before in
     let g = c .before .length .given in
-    let p = counting-passed _ _ _ _ _ (after-read .before .before .loop .inv) (g .0 .0) (after-read .before .loop-test .taken)
+    let p = tally-passed _ _ _ _ _ (after-read .before .before .loop .inv) (g .0 .0) (after-read .before .loop-test .taken)
     (sym (g .1) ∙ after-read .pass-packet .ensures) in
     omega (arith, p .2, after-read .before .before .before .before .before .before .fits)
 
@@ -41,7 +41,7 @@ loop-less : tie.Need-loop-less Inv-loop μ-loop
 loop-less c =
     let after-read = c .before .before .before in
     let g = c .before .length .given in
-    let p = counting-passed _ _ _ _ _ (after-read .before .before .loop .inv) (g .0 .0) (after-read .before .loop-test .taken)
+    let p = tally-passed _ _ _ _ _ (after-read .before .before .loop .inv) (g .0 .0) (after-read .before .loop-test .taken)
     (sym (g .1) ∙ after-read .pass-packet .ensures) in
     omega (arith, p .1, p .2)
 
@@ -49,18 +49,18 @@ loop-again : tie.Need-loop-again Inv-loop μ-loop
 loop-again c =
     let after-read = c .before .before .before in
     let g = c .before .length .given in
-    counting-passed _ _ _ _ _ (after-read .before .before .loop .inv) (g .0 .0) (after-read .before .loop-test .taken)
+    tally-passed _ _ _ _ _ (after-read .before .before .loop .inv) (g .0 .0) (after-read .before .loop-test .taken)
     (sym (g .1) ∙ after-read .pass-packet .ensures) .0
 
 returns-2 : tie.Need-returns-2 Inv-loop μ-loop
 returns-2 c =
     let after-read = c .before .before .before in
     let g = c .before .refusal .given in
-    counting-stops _ _ _ _ _ (after-read .before .before .loop .inv) (g .0 .0) (after-read .before .loop-test .taken)
+    tally-stops _ _ _ _ _ (after-read .before .before .loop .inv) (g .0 .0) (after-read .before .loop-test .taken)
     (sym (barred-is _ _ (sym (g .1) ∙ after-read .pass-packet .ensures)))
 
 returns-3 : tie.Need-returns-3 Inv-loop μ-loop
-returns-3 c = counting-end _ _ _ _ _ (c .before .before .loop .inv) _ (c .before .loop-test .left) (c .refuse2 .ensures)
+returns-3 c = tally-end _ _ _ _ _ (c .before .before .loop .inv) _ (c .before .loop-test .left) (c .refuse2 .ensures)
 
 pub read-recording-spec : {M : Type 1} → statement M
 read-recording-spec =

@@ -1,5 +1,5 @@
 use native.Mathlib.Omega.{arith}
-use Prim.Native.Nat.{_+_, _-_}
+use Prim.Native.Nat.{_-_}
 use Rattle.units.proofs.Sums.{Lanes, lanes-first, lanes-next, lanes-last}
 use Rattle.units.proofs.lanes32.Statement.{statement}
 use Rattle.units.proofs.lanes32.Tie as tie

@@ -1,4 +1,4 @@
--- `units::read16` meets its contract: the byte and the next one, by `field-two`. Assumes nothing.
+-- `units::read16` meets its contract: the byte and the next one, by `field-two`.
 use borrow.Author.Needs.{needs}
 use native.Mathlib.Omega.{arith}
 use Rattle.units.proofs.Parts.{field-two}

@@ -7,11 +7,7 @@ use borrow.Author.Tests.{eq-eqb, ne-eqb, not-true, not-false}
 use borrow.Author.Needs.{needs}
 use Rattle.body.proofs.opening.message_shape.Statement.{statement}
 use Rattle.body.proofs.opening.message_shape.Tie as tie
-use Rattle.body.proofs.opening.message_shape.Reads as reads
-use Rattle.body.proofs.opening.message_shape.Lts as lts
-use Rattle.body.proofs.opening.counter_ok.Reads as counter-ok-reads
 
--- src/opening.rt:29:30
 counter-ok-requires : tie.Need-counter-ok-requires
 counter-ok-requires c κs = search needs
 

@@ -1,4 +1,4 @@
-use Rattle.body.specs.Inner.{limitOf}
+use Rattle.body.specs.inner.Walks.{limitOf}
 use borrow.Author.Needs.{needs}
 use Rattle.body.proofs.time.limit_of.Statement.{statement}
 use Rattle.body.proofs.time.limit_of.Tie as tie

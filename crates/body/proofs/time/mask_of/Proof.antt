@@ -1,4 +1,4 @@
-use Rattle.body.specs.Inner.{maskOf}
+use Rattle.body.specs.inner.Walks.{maskOf}
 use borrow.Author.Needs.{needs}
 use Rattle.body.proofs.time.mask_of.Statement.{statement}
 use Rattle.body.proofs.time.mask_of.Tie as tie

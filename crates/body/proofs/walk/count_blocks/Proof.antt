@@ -1,6 +1,6 @@
 use Rattle.body.proofs.Walking.{Counting, counting-first, counting-stop, ending-exact, ending-over}
 use Rattle.body.proofs.Steps.{step-fault, step-on}
-use Rattle.body.specs.Inner.{walked}
+use Rattle.body.specs.inner.Walks.{walked}
 use borrow.Author.Tests.{not-true, not-false}
 use lib.ListN.{length}
 use Prim.Native.Nat.{_-_}

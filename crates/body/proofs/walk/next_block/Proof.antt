@@ -1,6 +1,6 @@
 use Rattle.body.specs.declared.Message.{Message}
 use Rattle.body.specs.Walk.{headAt}
-use Rattle.body.specs.Inner.{past}
+use Rattle.body.specs.inner.Walks.{past}
 use Rattle.body.proofs.Steps.{cut-short, judged}
 use native.Mathlib.Omega.{arith}
 use mathlib.Core.Path.{ap, _∙_}

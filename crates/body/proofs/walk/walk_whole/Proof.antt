@@ -2,7 +2,7 @@ use Rattle.body.proofs.Walking.{open-long}
 use Rattle.body.proofs.Whole.{open-not-carried}
 use Rattle.body.proofs.Exactly.{check-shaped}
 use Rattle.body.specs.Answers.{checkBody}
-use Rattle.body.specs.Inner.{walked}
+use Rattle.body.specs.inner.Walks.{walked}
 use mathlib.Core.Path.{sym, ap, _∙_}
 use borrow.Author.Needs.{needs}
 use Rattle.body.proofs.walk.walk_whole.Statement.{statement}

@@ -9,31 +9,20 @@ use mathlib.Core.Path.{refl, sym, _∙_}
 use borrow.Author.Needs.{needs}
 use Rattle.builder.proofs.Draft.close.Statement.{statement}
 use Rattle.builder.proofs.Draft.close.Tie as tie
-use Rattle.builder.proofs.Draft.close.Reads as reads
-use Rattle.builder.proofs.Draft.close.Lts as lts
-use Rattle.builder.proofs.bad_draft.Reads as bad-draft-reads
-use Rattle.builder.proofs.counts_blocks.Reads as counts-blocks-reads
-use Rattle.builder.proofs.deny.Reads as deny-reads
-use Rattle.units.proofs.put16.Reads as put16-reads
 
--- src/lib.rt:92:12
 bad-draft-requires : tie.Need-bad-draft-requires
 bad-draft-requires c κs = search needs
 
--- src/lib.rt:93:13
 deny-requires : tie.Need-deny-requires
 deny-requires c κs = search needs
 
--- src/lib.rt:93:13
 returns : tie.Need-returns
 unfolding closeStep
 returns c = (c .deny .ensures ∙ chosen _ _ (c .before .before .bad-draft .ensures) (c .before .if1 .taken), buf-kept _ _ _ _ _ _ (c .deny .ensures))
 
--- src/lib.rt:96:13
 deny-requires-2 : tie.Need-deny-requires-2
 deny-requires-2 c κs = search needs
 
--- src/lib.rt:96:13
 returns-2 : tie.Need-returns-2
 unfolding closeStep
 returns-2 c = (
@@ -42,15 +31,12 @@ returns-2 c = (
   buf-kept _ _ _ _ _ _ (c .deny2 .ensures),
 )
 
--- src/lib.rt:98:12
 counts-blocks-requires : tie.Need-counts-blocks-requires
 counts-blocks-requires c κs = search needs
 
--- src/lib.rt:99:27
 cast-put16 : tie.Need-cast-put16
 cast-put16 c = search needs
 
--- src/lib.rt:99:13
 put16-requires : tie.Need-put16-requires
 put16-requires c κs =
     let at-else1 = c .before .before .before .before .before .before in
@@ -58,11 +44,9 @@ put16-requires c κs =
     let f = draft-facts (a .self) (length (a .buf .now)) (sym (at-else1 .before .bad-draft .ensures) ∙ at-else1 .if1 .left) in
     omega (arith, f .0, f .1)
 
--- src/lib.rt:88:5
 same-length : tie.Need-same-length
 same-length c = search needs
 
--- src/lib.rt:88:5
 returns-3 : tie.Need-returns-3
 unfolding closeStep bufAfter
 returns-3 c =
@@ -76,7 +60,6 @@ returns-3 c =
       put .put16 .ensures ∙ simp (bytesOf-mod 2 (d .blocks), counted),
     )
 
--- src/lib.rt:88:5
 returns-4 : tie.Need-returns-4
 unfolding closeStep bufAfter
 returns-4 c =

@@ -3,7 +3,7 @@ use native.Mathlib.Omega.{arith}
 use borrow.Author.Needs.{needs}
 use lib.ListN.{length}
 use Rattle.body.specs.Blocks.{blockBytes}
-use Rattle.builder.specs.Build.{stamped, addStep, entryOf}
+use Rattle.builder.specs.Build.{stamped, entryOf}
 use Rattle.ch11.specs.Given.{addGiven}
 use Rattle.ch11.proofs.Giving.{over-add, upper-fits, refused-as, step-as, upper-as}
 use Rattle.ch11.proofs.given.add_given.Statement.{statement}

@@ -5,10 +5,10 @@ use native.Mathlib.Omega.{arith}
 use lib.ListN.{length}
 use borrow.Author.Needs.{needs}
 use Rattle.frame.specs.Table.{first, headLines, valuesIn, wholeLines, secondaryLines, trailerLines, frameLines}
-use Rattle.frame.specs.Inner.{Sound}
+use Rattle.frame.specs.inner.Lengths.{Sound}
 use Rattle.frame.proofs.Tables.{stage-some}
 use Rattle.frame.proofs.Frames.{sound, head-enough, head-numbered, value-numbered, whole-numbered, secondary-numbered}
-use Rattle.frame.proofs.Stages.{past, not-whole, is-whole}
+use Rattle.frame.proofs.Stages.{stage-past, not-whole, is-whole}
 use Rattle.frame.proofs.table.first_refusal.Statement.{statement}
 use Rattle.frame.proofs.table.first_refusal.Tie as tie
 
@@ -21,7 +21,7 @@ head c = sym (c .before .head-refusal .ensures) ∙ c .if1 .left
 
 after1 : (c : tie.Else1) (r : ℕ) → r ≡ first (valuesIn (w1 c) ++ (wholeLines (w1 c) ++ (secondaryLines (w1 c) ++ trailerLines (w1 c)))) → r ≡ first (frameLines (w1 c))
 unfolding frameLines
-after1 c r q = past _ _ r (head-numbered (w1 c)) (head c) q
+after1 c r q = stage-past _ _ r (head-numbered (w1 c)) (head c) q
 
 abbrev w2 : tie.Else2 → List ℕ
 w2 c = w1 (c .before .before)
@@ -30,7 +30,7 @@ values : (c : tie.Else2) → first (valuesIn (w2 c)) ≡ 0
 values c = sym (c .before .value-refusal-in .ensures) ∙ c .if2 .left
 
 after2 : (c : tie.Else2) (r : ℕ) → r ≡ first (wholeLines (w2 c) ++ (secondaryLines (w2 c) ++ trailerLines (w2 c))) → r ≡ first (frameLines (w2 c))
-after2 c r q = after1 (c .before .before) r (past (valuesIn (w2 c)) _ r (value-numbered _ _ _ _ _ _) (values c) q)
+after2 c r q = after1 (c .before .before) r (stage-past (valuesIn (w2 c)) _ r (value-numbered _ _ _ _ _ _) (values c) q)
 
 abbrev w3 : tie.Else3 → List ℕ
 w3 c = w2 (c .before .before)
@@ -39,7 +39,7 @@ there : (c : tie.Else3) → first (wholeLines (w3 c)) ≡ 0
 there c = is-whole (w3 c) (omega (arith, c .before .read32 .ensures, c .if3 .left))
 
 after3 : (c : tie.Else3) (r : ℕ) → r ≡ first (secondaryLines (w3 c) ++ trailerLines (w3 c)) → r ≡ first (frameLines (w3 c))
-after3 c r q = after2 (c .before .before) r (past _ _ r (whole-numbered (w3 c)) (there c) q)
+after3 c r q = after2 (c .before .before) r (stage-past _ _ r (whole-numbered (w3 c)) (there c) q)
 
 sound3 : (c : tie.Else3) → Sound (w3 c)
 sound3 c = sound (w3 c) (head (c .before .before .before .before)) (values (c .before .before)) (there c)
@@ -78,7 +78,7 @@ returns-5 : tie.Need-returns-5
 returns-5 c =
     let test = c .before in
     let right = sym (test .before .secondary-refusal .ensures) ∙ test .if4 .left in
-    after3 (test .before .before) _ (past _ _ _ (secondary-numbered _) right (c .trailer-refusal .ensures))
+    after3 (test .before .before) _ (stage-past _ _ _ (secondary-numbered _) right (c .trailer-refusal .ensures))
 
 pub first-refusal-spec : {M : Type 1} → statement M
 first-refusal-spec =

@@ -4,7 +4,7 @@ use borrow.Author.Needs.{needs}
 use Rattle.frame.specs.Table.{first, valueLines}
 use Rattle.packet.specs.Write.{writerLines, writerRefusal}
 use Rattle.frame.proofs.Frames.{value-numbered}
-use Rattle.frame.proofs.Stages.{past}
+use Rattle.frame.proofs.Stages.{stage-past}
 use Rattle.frame.proofs.Tables.{stands, passes, none, broken, kept, stage-some}
 use Rattle.packet.proofs.writing.writer_refusal.Statement.{statement}
 use Rattle.packet.proofs.writing.writer_refusal.Tie as tie
@@ -33,7 +33,7 @@ returns-3 c =
     let value-refusal = c .before .before .before .value-refusal in
     let if2 = c .before .before .if2 in
     passes 17 12 _ (kept (in-range .ensures) (if1 .left))
-    (past _ _ _ (value-numbered _ _ _ _ _ _) (sym (value-refusal .ensures ∙ ap (λ (p : ℕ). first (valueLines (given .fields .channel) (given .fields .version) (given .fields .flags) (given .fields .kind) p (given .d))) (length-for .ensures .0)) ∙ if2 .left)
+    (stage-past _ _ _ (value-numbered _ _ _ _ _ _) (sym (value-refusal .ensures ∙ ap (λ (p : ℕ). first (valueLines (given .fields .channel) (given .fields .version) (given .fields .flags) (given .fields .kind) p (given .d))) (length-for .ensures .0)) ∙ if2 .left)
     (stands 12 _ (broken (c .before .secondary-time-ok .ensures) (c .if3 .taken))))
 
 returns-4 : tie.Need-returns-4
@@ -46,7 +46,7 @@ returns-4 c =
     let value-refusal = c .before .before .before .value-refusal in
     let if2 = c .before .before .if2 in
     passes 17 0 _ (kept (in-range .ensures) (if1 .left))
-    (past _ _ _ (value-numbered _ _ _ _ _ _) (sym (value-refusal .ensures ∙ ap (λ (p : ℕ). first (valueLines (given .fields .channel) (given .fields .version) (given .fields .flags) (given .fields .kind) p (given .d))) (length-for .ensures .0)) ∙ if2 .left)
+    (stage-past _ _ _ (value-numbered _ _ _ _ _ _) (sym (value-refusal .ensures ∙ ap (λ (p : ℕ). first (valueLines (given .fields .channel) (given .fields .version) (given .fields .flags) (given .fields .kind) p (given .d))) (length-for .ensures .0)) ∙ if2 .left)
     (passes 12 0 _ (kept (c .before .secondary-time-ok .ensures) (c .if3 .left)) none))
 
 pub writer-refusal-spec : {M : Type 1} → statement M

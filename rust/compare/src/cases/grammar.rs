@@ -1,0 +1,96 @@
+//! Which words each command of the table takes and which it can't do without, so that no word is left unread.
+
+use super::words::{halves, Line};
+
+/// A packet as the writer takes it.
+const GIVEN: [&str; 8] = [
+    "channel", "version", "sequence", "flags", "type", "rtc", "time", "body",
+];
+/// What else a packet is described by.
+const BENT: [&str; 8] = [
+    "sync",
+    "P",
+    "D",
+    "reserved",
+    "filler",
+    "header_sum_off",
+    "secondary_sum_off",
+    "data_sum_off",
+];
+/// Pieces of bytes, and the window.
+const WINDOW: [&str; 5] = ["bytes", "from", "kept", "start", "end"];
+
+/// How many bare words a command takes, the words it needs, and those it may have.
+struct Form(
+    std::ops::RangeInclusive<usize>,
+    &'static [&'static str],
+    Vec<&'static str>,
+);
+
+fn form(command: &str) -> Form {
+    let packets = 0..=9;
+    match command {
+        "packet" => Form(1..=2, &[], [GIVEN, BENT].concat()),
+        "buffer" => Form(1..=1, &[], Vec::new()),
+        "state" => Form(0..=0, &["used", "blocks", "type", "rule"], Vec::new()),
+        "read" | "recording" => Form(packets, &[], of_a_reader()),
+        "list" => Form(packets, &["starts", "lengths"], of_a_reader()),
+        "message" => Form(packets, &["number"], of_a_reader()),
+        "write" => Form(1..=1, &[], [&GIVEN[..], &["room"]].concat()),
+        "open" => Form(0..=0, &["type", "rule"], Vec::new()),
+        "add" => Form(0..=0, &["bytes"], vec!["time", "upper", "times"]),
+        "close" | "holds" => Form(0..=0, &[], Vec::new()),
+        other => panic!("no such command: {}", other),
+    }
+}
+
+fn of_a_reader() -> Vec<&'static str> {
+    [&GIVEN[..], &BENT, &WINDOW].concat()
+}
+
+/// Whether words of this name describe a packet.
+pub fn is_of_a_packet(name: &str) -> bool {
+    GIVEN.contains(&name) || BENT.contains(&name)
+}
+
+/// The place that a word `byte13` names.
+pub fn altered_byte(name: &str) -> Option<usize> {
+    name.strip_prefix("byte")?.parse().ok()
+}
+
+/// Whether a word of a packet, or of what is asked of it, stands there twice.
+fn is_said_twice(line: &Line) -> bool {
+    let is_piece = |word: &&str| halves(word).1.is_empty() || halves(word).0 == "bytes";
+    let of_piece = |words: &[&str]| {
+        let mut names: Vec<&str> = words.iter().map(|word| halves(word).0).collect();
+        names.sort_unstable();
+        names.windows(2).any(|pair| pair[0] == pair[1])
+    };
+    line.given.split(|word| is_piece(&word)).any(of_piece)
+}
+
+/// Ends the run where the line is none of the table: a word that its command does not take, lacks or has twice, a window named by half or in two
+/// ways, a case without a sentence or an outcome, an outcome or several values where there is no case.
+pub fn check(line: &Line, cases: usize) {
+    let Form(bare, needed, allowed) = form(line.command);
+    let prepares = ["packet", "buffer", "state"].contains(&line.command);
+    let names: Vec<&str> = line.given.iter().map(|word| halves(word).0).collect();
+    let has = |name: &str| names.contains(&name);
+    let reads = allowed.contains(&"kept");
+    let is_known = |word: &&str| {
+        let (name, value) = halves(word);
+        let takes = needed.contains(&name) || allowed.contains(&name);
+        value.is_empty() || takes || (reads && altered_byte(name).is_some())
+    };
+    let bare_words = line.given.iter().filter(|word| halves(word).1.is_empty());
+    let is_sound = bare.contains(&bare_words.count())
+        && line.given.iter().all(is_known)
+        && needed.iter().all(|name| has(name))
+        && !is_said_twice(line)
+        && has("start") == has("end")
+        && !(has("start") && (has("from") || has("kept")))
+        && prepares == line.wanted.is_empty()
+        && (prepares || !line.sentence.is_empty())
+        && (!prepares || cases == 1);
+    assert!(is_sound, "no line of the table: {}", line.text);
+}
