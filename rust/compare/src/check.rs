@@ -19,9 +19,25 @@ pub fn describe(window: &Placed) -> String {
     format!("start {} end {} of {}", start, end, hex(&window.buf))
 }
 
-/// The number that a call returns is the one in its struct.
+/// The number that a call returns is the one in its struct, and without a refusal there is no place and no room.
 fn returned(tally: &mut Tally, input: &dyn Fn() -> String, number: u64, refusal: &Refusal) {
     tally.require("the number returned", input, &number, &refusal.number);
+    let is_none = *refusal == Refusal::default();
+    tally.require("no refusal", input, &is_none, &(number == 0));
+}
+
+/// "A refusal returns its number and place; all other results are zero".
+macro_rules! zero_beside {
+    ($tally:expr, $input:expr, $answer:expr, $type:ident) => {
+        let refusal = $answer.refusal;
+        let alone = $type {
+            refusal,
+            ..$type::default()
+        };
+        if refusal.number != 0 {
+            $tally.require("all other results are zero", $input, &$answer, &alone);
+        }
+    };
 }
 
 pub fn read(tally: &mut Tally, window: &Placed) -> (u64, Packet) {
@@ -29,6 +45,7 @@ pub fn read(tally: &mut Tally, window: &Placed) -> (u64, Packet) {
     let wanted = expected::read_packet(window);
     tally.compare(&READ, &|| describe(window), &answer, &wanted);
     returned(tally, &|| describe(window), answer.0, &answer.1.refusal);
+    zero_beside!(tally, &|| describe(window), answer.1, Packet);
     if answer.0 == 0 {
         tally.accepted(answer.1.fields.kind, answer.1.fields.flags);
     }
@@ -61,6 +78,7 @@ pub fn list(
     tally.compare(&LIST, &input, &answer, &wanted);
     let (number, (list, first, second)) = answer;
     returned(tally, &input, number, &list.refusal);
+    zero_beside!(tally, &input, list, List);
     let kept = |list_of: &[u32]| {
         let told = MARGIN..MARGIN + list.count as usize;
         let mut entries = list_of.iter().enumerate();
@@ -78,6 +96,7 @@ pub fn message(tally: &mut Tally, window: &Placed, number: usize) -> (u64, Messa
     let input = || format!("message {}; {}", number, describe(window));
     tally.compare(&ONE_MESSAGE, &input, &answer, &wanted);
     returned(tally, &input, answer.0, &answer.1.refusal);
+    zero_beside!(tally, &input, answer.1, Message);
     answer
 }
 
@@ -163,6 +182,7 @@ pub fn write(tally: &mut Tally, fields: &Fields, body: &[u8], room: usize) -> (W
     tally.compare(&WRITE, &input, &answer, &run(expected::write_packet));
     let (number, (written, mut out)) = answer;
     returned(tally, &input, number, &written.refusal);
+    zero_beside!(tally, &input, written, Written);
     let packet = MARGIN..MARGIN + written.length as usize;
     let mut bytes = out.iter().enumerate();
     let kept = bytes.all(|(at, byte)| packet.contains(&at) || *byte == PATTERN);
