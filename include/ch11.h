@@ -44,7 +44,7 @@
 extern "C" {
 #endif
 
-/* ---- refusals: tested from the top, save where a call says otherwise; the first that applies is given */
+/* ---- refusals: tested from the top, save where a call says otherwise; the first that applies is given. 1 to 15 are the reader's */
 
 enum {
     CH11_NONE = 0,
@@ -69,7 +69,7 @@ enum {
 };
 
 struct ch11_refusal {
-    uint64_t number; /* as above; 0: none, and then the other two are 0 as well */
+    uint64_t number; /* as above; 0: none, and then the others are 0 as well */
     uint64_t place;  /* where, counted from the buffer's first byte: the start of the packet; for 15 the channel word or the first byte
                         of the block at fault, of the bytes left over, or where a missing block should begin. Writer and builder: 0 */
     uint64_t room;   /* for 16: the messages, or the bytes of the whole packet or body, that need room; else 0 */
@@ -111,8 +111,8 @@ struct ch11_packet {
     struct ch11_part sum;
 };
 
-/* Reads the packet at the window's start; the window may go on behind it. The next packet, if any, begins at start + length. Refusals 1
- * to 15. */
+/* Reads the packet at the window's start; the window may go on behind it. The next packet, if any, begins at start + length.
+ * The reader's refusals. */
 uint64_t ch11_read_packet(const uint8_t *buf, size_t len, size_t start, size_t end, struct ch11_packet *packet);
 
 /* ---- the messages of a packet */
@@ -130,9 +130,9 @@ struct ch11_list {
 };
 
 /* Lists the messages of the packet at the window's start: entry k of the two lists is the start, counted from the packet's first byte,
- * and the length of message k. Entries past the count are untouched. Refusals 1 to 15, then 16 where there are more messages than the
- * shorter list holds. To count the messages beforehand, lend lists of length 0: the count is the room that 16 gives, or 0 without a
- * refusal. */
+ * and the length of message k. Entries past the count are untouched. The reader's refusals, then 16 where there are more messages than
+ * the shorter list holds. To count the messages beforehand, lend lists of length 0: the count is the room that 16 gives, or 0 without
+ * a refusal. */
 uint64_t ch11_list_messages(const uint8_t *buf, size_t len, size_t start, size_t end, uint32_t *starts, size_t starts_len,
                             uint32_t *lengths, size_t lengths_len, struct ch11_list *list);
 
@@ -144,9 +144,9 @@ struct ch11_message {
     uint64_t length; /* of its bytes, 1 to 65,535 */
 };
 
-/* Gives one message of the packet at the window's start, by its number from 0. Refusals 1 to 15, then 17 where there is none, as always in
- * a type that isn't opened. Each call reads the packet anew; where starts and lengths are enough, one call of ch11_list_messages gives
- * those of all messages. */
+/* Gives one message of the packet at the window's start, by its number from 0. The reader's refusals, then 17 where there is none, as
+ * always in a type that isn't opened. Each call reads the packet anew; where starts and lengths are enough, one call of
+ * ch11_list_messages gives those of all messages. */
 uint64_t ch11_message(const uint8_t *buf, size_t len, size_t start, size_t end, size_t number, struct ch11_message *message);
 
 /* ---- a recording */
@@ -157,8 +157,8 @@ struct ch11_recording {
     uint64_t reached;            /* the refused packet's first byte (for 1 the start as given), or the end; given with a refusal too */
 };
 
-/* Reads the packets of a window, each at the end of the one before; the first that is refused ends the reading. Refusals 1 to 15. An empty
- * window within its buffer holds no packets and isn't refused. */
+/* Reads the packets of a window, each at the end of the one before; the first that is refused ends the reading. The reader's refusals. An
+ * empty window within its buffer holds no packets and isn't refused. */
 uint64_t ch11_read_recording(const uint8_t *buf, size_t len, size_t start, size_t end, struct ch11_recording *recording);
 
 /* ---- the writer */

@@ -1,5 +1,5 @@
 -- How a walk ends; places lie in the body or at its end: a fault's, and a message's bytes.
-use mathlib.Core.Path.{_≡_, refl, sym, ap, _∙_}
+use mathlib.Core.Path.{_≡_, refl, sym, ap, _∙_, subst}
 use mathlib.Core.List.{List}
 use mathlib.Core.Bool.{Bool, true, false, not}
 use mathlib.Core.Logic.{_≢_, _⊎_, inl, inr, ⊎-elim}
@@ -11,11 +11,12 @@ use lib.Dec.{ltb, leb, eqb}
 use borrow.Author.Tests.{eqb-false}
 use Rattle.units.specs.Units.{part, zeros}
 use Rattle.units.specs.Choice.{pick}
-use Rattle.body.specs.Times.{timeOk}
-use Rattle.body.specs.Walk.{fault, blockEnd, headAt, judge, blockAt, stopAt, ending, stampLength, openBody, walk, walkFrom}
+use Rattle.terms.specs.Times.{timeOk}
+use Rattle.body.specs.Walk.{blockEnd, headAt, judge, blockAt, stopAt, ending, stampLength, openBody, walk, walkFrom}
+use Rattle.terms.specs.Refusals.{fault}
 use Rattle.body.specs.Answers.{checkBody, checkOpened, messageOf, messageIn}
-use Rattle.body.specs.declared.TimeRule.{TimeRule}
-use Rattle.body.specs.declared.Refusal.{Refusal}
+use Rattle.terms.specs.declared.TimeRule.{TimeRule}
+use Rattle.terms.specs.declared.Refusal.{Refusal}
 use Rattle.body.specs.declared.Shape.{Shape}
 use Rattle.body.specs.declared.Message.{Message}
 use Rattle.body.specs.declared.Opened.{Opened}
@@ -29,21 +30,28 @@ use Rattle.body.proofs.Reading.{ReadingBody, reading-first, reading-ahe
 
 -- ---- faults
 
+-- a body's refusal, at this place
+abbrev pub FaultAt : ℕ → Refusal → Type 0
+FaultAt at r = r ≡ fault at
+
+pub fault-place : (at : ℕ) (r : Refusal) → FaultAt at r → r .place ≡ at
+fault-place at r is = ap (λ (x : Refusal). x .place) is
+
 -- every fault of a block is placed at its first byte
-at-start : (t : Bool) (at : ℕ) (rest : Block) → ((r : Refusal) → rest ≡ Broken r → r ≡ fault at)
-    → (r : Refusal) → pick t (Broken (fault at)) rest ≡ Broken r → r ≡ fault at
+at-start : (t : Bool) (at : ℕ) (rest : Block) → ((r : Refusal) → rest ≡ Broken r → FaultAt at r)
+    → (r : Refusal) → pick t (Broken (fault at)) rest ≡ Broken r → FaultAt at r
 at-start true at rest behind r e = cc
 at-start false at rest behind r e = behind r e
 
-found-broken : (m : Message) (next : ℕ) (at : ℕ) (r : Refusal) → Found m next ≡ Broken r → r ≡ fault at
+found-broken : (m : Message) (next : ℕ) (at : ℕ) (r : Refusal) → Found m next ≡ Broken r → FaultAt at r
 found-broken m next at r e = let z : _≡_ {A = ℕ} 0 1 = cc in absurd (omega arith)
 
-pub broken-at : (sh : Shape) (bs : List ℕ) (at : ℕ) (r : Refusal) → blockAt sh bs at ≡ Broken r → r ≡ fault at
+pub broken-at : (sh : Shape) (bs : List ℕ) (at : ℕ) (r : Refusal) → blockAt sh bs at ≡ Broken r → FaultAt at r
 unfolding blockAt judge
 broken-at sh bs at =
-    let m = headAt (sh .stamped) bs at in
+    let m = headAt (sh .form) bs at in
     at-start (leb (length bs) at) at _
-    (at-start (ltb (length bs) (at + stampLength (sh .stamped) + 4)) at _
+    (at-start (ltb (length bs) (at + stampLength (sh .form) + 4)) at _
     (at-start (ltb (length bs) (blockEnd m)) at _
     (at-start (not (timeOk (sh .rule) (m .time))) at _
     (at-start (eqb (m .length) 0) at _
@@ -51,11 +59,11 @@ broken-at sh bs at =
     (found-broken m (blockEnd m) at))))))
 
 -- bytes left over are placed at the first of them
-pub ending-faulty : (len k at : ℕ) (r : Refusal) → ending len k at ≡ Faulty r → (r ≡ fault at) × (at ≢ len)
+pub ending-faulty : (len k at : ℕ) (r : Refusal) → ending len k at ≡ Faulty r → FaultAt at r × (at ≢ len)
 unfolding ending
 ending-faulty len k at r e = go (eqb at len) refl e
   where
-    go : (b : Bool) → eqb at len ≡ b → pick b (Counted k) (Faulty (fault at)) ≡ Faulty r → (r ≡ fault at) × (at ≢ len)
+    go : (b : Bool) → eqb at len ≡ b → pick b (Counted k) (Faulty (fault at)) ≡ Faulty r → FaultAt at r × (at ≢ len)
     go true t e = let z : _≡_ {A = ℕ} 0 1 = cc in absurd (omega arith)
     go false t e = (cc, eqb-false at len t)
 
@@ -64,7 +72,7 @@ pub record End (sh : Shape) (bs : List ℕ) (says : Checked) : Type 0 where
   pub blocks : ℕ
   pub place : ℕ
   pub there : Walking sh bs blocks place
-  pub how : ((stopAt sh (length bs) blocks place ≡ true) × (says ≡ ending (length bs) blocks place)) ⊎ (says ≡ Faulty (fault place))
+  pub how : ((stopAt sh (length bs) blocks place ≡ true) × (says ≡ ending (length bs) blocks place)) ⊎ ((r : Refusal) × (says ≡ Faulty r) × FaultAt place r)
 
 -- from the k-th block on, for the walk over the whole
 walk-ends : (sh : Shape) (bs : List ℕ) (f k at : ℕ) → Walking sh bs k at → length bs < f + k → End sh bs (walkFrom sh bs f k)
@@ -76,7 +84,7 @@ walk-ends sh bs (suc f) k at w hf =
         → ((next : ℕ) → Walking sh bs (k + 1) next → End sh bs (walkFrom sh bs f (k + 1))) → End sh bs (walkFrom sh bs (suc f) k)
     go true s x b rest = record { blocks = k; place = at; there = w; how = inl (s, walk-stop sh bs (suc f) k at (w .0) (omega arith) s) }
     go false s (Broken q) b rest =
-        record { blocks = k; place = at; there = w; how = inr (walk-broken sh bs (suc f) k at (w .0) (omega arith) q s b ∙ ap Faulty (broken-at sh bs at q b)) }
+        record { blocks = k; place = at; there = w; how = inr (q, walk-broken sh bs (suc f) k at (w .0) (omega arith) q s b, broken-at sh bs at q b) }
     go false s (Found m next) b rest =
         let pf : suc f - 1 ≡ f = omega arith in
         let on : walkFrom sh bs (suc f) k ≡ walkFrom sh bs f (k + 1) = rw pf at (walk-found sh bs (suc f) k at (w .0) (omega arith) m next s b) in
@@ -88,22 +96,27 @@ unfolding walk
 walk-end sh bs long = walk-ends sh bs (length bs + 1) 0 4 (walking-first sh bs long) (omega arith)
 
 -- every refusal of a body is 15, and its place lies in the body or at its end
-pub faulty-is : (kind : ℕ) (rule : TimeRule) (bs : List ℕ) (r : Refusal) → checkBody kind rule bs ≡ Faulty r → (r ≡ fault (r .place)) × (r .place ≤ length bs)
+pub faulty-is : (kind : ℕ) (rule : TimeRule) (bs : List ℕ) (r : Refusal) → checkBody kind rule bs ≡ Faulty r → FaultAt (r .place) r × (r .place ≤ length bs)
 unfolding checkBody
 faulty-is kind rule bs r e = go (openBody kind rule bs) refl e
   where
-    at : (place : ℕ) → place ≤ length bs → r ≡ fault place → (r ≡ fault (r .place)) × (r .place ≤ length bs)
-    at place h is = let p : r .place ≡ place = ap (λ (x : Refusal). x .place) is in (is ∙ ap fault (sym p), omega arith)
+    at : (place : ℕ) → place ≤ length bs → FaultAt place r → FaultAt (r .place) r × (r .place ≤ length bs)
+    at place h is = let p = fault-place place r is in (subst (λ (a : ℕ). FaultAt a r) (sym p) is, omega (arith, p))
 
-    go : (o : Opened) → openBody kind rule bs ≡ o → checkOpened o bs ≡ Faulty r → (r ≡ fault (r .place)) × (r .place ≤ length bs)
+    go : (o : Opened) → openBody kind rule bs ≡ o → checkOpened o bs ≡ Faulty r → FaultAt (r .place) r × (r .place ≤ length bs)
     go Carried q h = let z : _≡_ {A = ℕ} 0 1 = cc in absurd (omega arith)
     go (Shaped sh) q h =
         let x = walk-end sh bs (open-long kind rule bs sh q) in
         at (x .place) (x .there .2)
-        (⊎-elim (λ s. ending-faulty (length bs) (x .blocks) (x .place) r (sym (s .1) ∙ h) .0) (λ s. let same : Faulty r ≡ Faulty (fault (x .place)) = sym h ∙ s in cc) (x .how))
+        (⊎-elim (λ s. ending-faulty (length bs) (x .blocks) (x .place) r (sym (s .1) ∙ h) .0) (λ s. let same : s .0 ≡ r = cc (sym (s .1) ∙ h) in subst (FaultAt (x .place)) same (s .2)) (x .how))
     go Wrong q h = at 0 (omega arith) (cc)
 
 -- the place alone
+pub faulty-number : (kind : ℕ) (rule : TimeRule) (bs : List ℕ) (r : Refusal) → checkBody kind rule bs ≡ Faulty r → (r .number ≡ 15) × (r .room ≡ 0)
+faulty-number kind rule bs r e =
+    let is = faulty-is kind rule bs r e .0 in
+    (ap (λ (x : Refusal). x .number) is, ap (λ (x : Refusal). x .room) is)
+
 pub faulty-place : (kind : ℕ) (rule : TimeRule) (bs : List ℕ) (r : Refusal) → checkBody kind rule bs ≡ Faulty r → r .place ≤ length bs
 faulty-place kind rule bs r e = faulty-is kind rule bs r e .1
 
@@ -111,10 +124,10 @@ faulty-place kind rule bs r e = faulty-is kind rule bs r e .1
 
 ahead-fits : (sh : Shape) (bs : List ℕ) (n d j at : ℕ) → ReadingBody sh bs n j at → j + d < n → blockEnd (messageOf sh bs (j + d)) ≤ length bs
 ahead-fits sh bs n zero j at now more =
-    let a = reading-ahead sh bs n j at now (omega arith) (headAt (sh .stamped) bs at) refl in
+    let a = reading-ahead sh bs n j at now (omega arith) (headAt (sh .form) bs at) refl in
     rw (add-zero, ← a .message) (a .fits)
 ahead-fits sh bs n (suc d) j at now more =
-    let a = reading-ahead sh bs n j at now (omega arith) (headAt (sh .stamped) bs at) refl in
+    let a = reading-ahead sh bs n j at now (omega arith) (headAt (sh .form) bs at) refl in
     let e : j + 1 + d ≡ j + suc d = omega arith in
     rw (← e) (ahead-fits sh bs n d (j + 1) _ (a .next) (omega arith))
 

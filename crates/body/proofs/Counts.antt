@@ -1,15 +1,18 @@
 -- What the walk's plain numbers say of a body, and the shape of a body that has messages.
 use mathlib.Core.Path.{_≡_, refl, sym, ap, _∙_}
 use mathlib.Core.List.{List}
-use mathlib.Core.Bool.{Bool, true, false}
+use mathlib.Core.Bool.{true, false}
 use mathlib.Core.Logic.{⊎-elim}
 use Prim.Native.Nat.{ℕ, _+_, _≤_, _<_}
 use native.Mathlib.Omega.{arith}
 use lib.ListN.{length}
-use Rattle.body.specs.Walk.{fault, opens, openBody, stampLength, headAt, walk}
+use Rattle.body.specs.Walk.{opens, openBody, stampLength, headAt, walk}
+use Rattle.terms.specs.Refusals.{fault}
 use Rattle.body.specs.Answers.{checkOpened, checkBody, messageIn}
-use Rattle.body.specs.inner.Walks.{stampsIn, walked}
-use Rattle.body.specs.declared.TimeRule.{TimeRule}
+use Rattle.body.specs.inner.Walks.{formIn, walked}
+use Rattle.terms.specs.declared.TimeRule.{TimeRule}
+use Rattle.body.specs.declared.Form.{Form}
+use Rattle.body.specs.declared.Form.the-variants.{Plain}
 use Rattle.body.specs.declared.Shape.{Shape}
 use Rattle.body.specs.declared.Message.{Message}
 use Rattle.body.specs.declared.Opened.{Opened}
@@ -38,7 +41,7 @@ counted-some kind rule bs n o e = go (openBody kind rule bs) refl e
         (λ s.
         let k : x .blocks ≡ n = ending-counted (length bs) (x .blocks) (x .place) n (sym (s .1) ∙ h) .0 in
         omega (arith, stop-some sh (length bs) (x .blocks) (x .place) (s .0) (known kind rule bs sh q .least) .1))
-        (λ s. let z : _≡_ {A = ℕ} 0 1 = cc (sym s ∙ h) in absurd (omega arith)) (x .how)
+        (λ s. let z : _≡_ {A = ℕ} 0 1 = cc (sym (s .1) ∙ h) in absurd (omega arith)) (x .how)
 
 module _ (kind : ℕ) (rule : TimeRule) (bs : List ℕ) (w : Walked) (o : opens kind ≡ true) (is : w ≡ walked (checkBody kind rule bs)) where
   -- a count that is not 0 is the number of messages
@@ -65,9 +68,9 @@ module _ (kind : ℕ) (rule : TimeRule) (bs : List ℕ) (w : Walked) (o : opens 
 
 -- the shape that a body opens to, where it has one
 abbrev shapeIn : TimeRule → Opened → Shape
-shapeIn rule Carried = record { stamped = false; counted = false; count = 0; rule = rule }
+shapeIn rule Carried = record { form = Plain; counted = false; count = 0; rule = rule }
 shapeIn rule (Shaped sh) = sh
-shapeIn rule Wrong = record { stamped = false; counted = false; count = 0; rule = rule }
+shapeIn rule Wrong = record { form = Plain; counted = false; count = 0; rule = rule }
 
 unfoldable pub shapeOf : ℕ → TimeRule → List ℕ → Shape
 shapeOf kind rule bs = shapeIn rule (openBody kind rule bs)
@@ -77,7 +80,7 @@ pub record Has (kind : ℕ) (rule : TimeRule) (bs : List ℕ) (n : ℕ) : Type 0
   pub opened : openBody kind rule bs ≡ Shaped (shapeOf kind rule bs)
   pub counted : walk (shapeOf kind rule bs) bs ≡ Counted n
   pub long : 4 ≤ length bs
-  pub stamps : stampsIn kind bs ≡ shapeOf kind rule bs .stamped
+  pub form-is : formIn kind bs ≡ shapeOf kind rule bs .form
 
 -- for code that reads a body again once its messages are counted
 pub has-messages : (kind : ℕ) (rule : TimeRule) (bs : List ℕ) (n : ℕ) → checkBody kind rule bs ≡ Counted n → 0 < n → Has kind rule bs n
@@ -93,7 +96,7 @@ has-messages kind rule bs n e some = go (openBody kind rule bs) refl e
           opened = q ∙ ap Shaped is;
           counted = rw (← is) h;
           long = open-long kind rule bs sh q;
-          stamps = rw (← is) (known kind rule bs sh q .stamps);
+          form-is = rw (← is) (known kind rule bs sh q .form-is);
         }
 
 -- ---- the loops over a body that has n messages
@@ -106,20 +109,20 @@ ReadingIn kind bs n k at = (rule : TimeRule) → checkBody kind rule bs ≡ Coun
 pub in-first : (kind : ℕ) (bs : List ℕ) (n : ℕ) → 0 < n → ReadingIn kind bs n 0 4
 in-first kind bs n some rule e = let h = has-messages kind rule bs n e some in reading-first _ bs n (h .long) (h .counted)
 
-module _ (kind : ℕ) (bs : List ℕ) (n k at : ℕ) (stamped : Bool) (now : ReadingIn kind bs n k at) (more : k < n)
-    (is : stamped ≡ stampsIn kind bs) (rule : TimeRule) (e : checkBody kind rule bs ≡ Counted n) where
-  -- the test that the code makes for stamps is the shape's
-  in-stamps : stamped ≡ shapeOf kind rule bs .stamped
-  in-stamps = is ∙ has-messages kind rule bs n e (omega arith) .stamps
+module _ (kind : ℕ) (bs : List ℕ) (n k at : ℕ) (form : Form) (now : ReadingIn kind bs n k at) (more : k < n)
+    (is : form ≡ formIn kind bs) (rule : TimeRule) (e : checkBody kind rule bs ≡ Counted n) where
+  -- the form that the code works out is the shape's
+  in-form : form ≡ shapeOf kind rule bs .form
+  in-form = is ∙ has-messages kind rule bs n e (omega arith) .form-is
 
   -- while messages are left the head at `at` is whole
-  pub in-fits : at + stampLength stamped + 4 ≤ length bs
-  in-fits = rw in-stamps (reading-fits _ bs n k at (now rule e) more)
+  pub in-fits : at + stampLength form + 4 ≤ length bs
+  in-fits = rw in-form (reading-fits _ bs n k at (now rule e) more)
 
   -- and what it says leads on to the next block
-  pub in-ahead : (m : Message) → m ≡ headAt stamped bs at → Ahead (shapeOf kind rule bs) bs n k at m
-  in-ahead m says = reading-ahead _ bs n k at (now rule e) more m (says ∙ ap (λ (b : Bool). headAt b bs at) in-stamps)
+  pub in-ahead : (m : Message) → m ≡ headAt form bs at → Ahead (shapeOf kind rule bs) bs n k at m
+  in-ahead m says = reading-ahead _ bs n k at (now rule e) more m (says ∙ ap (λ (f : Form). headAt f bs at) in-form)
 
   -- and is the k-th message
-  pub in-message : (m : Message) → m ≡ headAt stamped bs at → m ≡ messageIn kind rule bs k
+  pub in-message : (m : Message) → m ≡ headAt form bs at → m ≡ messageIn kind rule bs k
   in-message m says = in-ahead m says .message ∙ sym (message-shaped kind rule bs _ k (has-messages kind rule bs n e (omega arith) .opened))

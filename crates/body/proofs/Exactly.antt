@@ -12,7 +12,7 @@ use Rattle.units.specs.Units.{Bytes}
 use Rattle.body.specs.Walk.{opens, openBody, walk}
 use Rattle.body.specs.Answers.{checkOpened, checkBody, messageOf, messageIn, tab}
 use Rattle.body.specs.Blocks.{Entry, noEntry, AllFit, blocksBytes, messageOn, entryAt, entriesIn, BodyOf}
-use Rattle.body.specs.declared.TimeRule.{TimeRule}
+use Rattle.terms.specs.declared.TimeRule.{TimeRule}
 use Rattle.body.specs.declared.Shape.{Shape}
 use Rattle.body.specs.declared.Opened.{Opened}
 use Rattle.body.specs.declared.Opened.the-variants.{Carried, Shaped, Wrong}
@@ -35,13 +35,13 @@ blocks-walked : (kind : ℕ) (rule : TimeRule) (bs : List ℕ) (es : List Entry)
     → (walk (b .shape) bs ≡ Counted (length es))
     × (tab (length es) (entryOn (b .shape) bs) ≡ es)
     × ((i : ℕ) → i < length es
-    → messageOf (b .shape) bs (0 + i) ≡ messageOn (b .shape .stamped) (4 + length (blocksBytes (b .shape .stamped) (take i es))) (getD es i noEntry))
+    → messageOf (b .shape) bs (0 + i) ≡ messageOn (b .shape .form) (4 + length (blocksBytes (b .shape .form) (take i es))) (getD es i noEntry))
 unfolding tab
 blocks-walked kind rule bs es b =
     let sh = b .shape in
     let long : 4 ≤ length bs = open-long kind rule bs sh (b .opened) in
     let four : length (take 4 bs) ≡ 4 = length-take-le 4 bs long in
-    let fit : AllFit (sh .stamped) (sh .rule) es = rw (known kind rule bs sh (b .opened) .rule-is) (b .fit) in
+    let fit : AllFit (sh .form) (sh .rule) es = rw (known kind rule bs sh (b .opened) .rule-is) (b .fit) in
     let w =
     walk-blocks sh bs (length es) (stop-last sh bs (length es) (b .counted) (b .some)) (on-before sh bs (length es) (λ c. omega (arith, b .counted c)))
     es (take 4 bs) 0 (omega arith) (b .is) fit (rw four (counting-first sh bs long)) in
@@ -56,7 +56,7 @@ body-of-blocks kind rule bs es b =
 
 -- and each where it stands, with its length: behind the channel word and the blocks before it
 pub body-messages : (kind : ℕ) (rule : TimeRule) (bs : List ℕ) (es : List Entry) (b : BodyOf kind rule bs es) (k : ℕ) → k < length es
-    → messageIn kind rule bs k ≡ messageOn (b .shape .stamped) (4 + length (blocksBytes (b .shape .stamped) (take k es))) (getD es k noEntry)
+    → messageIn kind rule bs k ≡ messageOn (b .shape .form) (4 + length (blocksBytes (b .shape .form) (take k es))) (getD es k noEntry)
 body-messages kind rule bs es b k h = message-shaped kind rule bs (b .shape) k (b .opened) ∙ rw zero-add at (blocks-walked kind rule bs es b .2 k h)
 
 -- an accepted body is exactly its channel word followed by the blocks of the messages reported: nothing invented, nothing left out
@@ -82,7 +82,7 @@ body-is-blocks kind rule bs n raw o e = go (openBody kind rule bs) refl e
                 counted = h .counted;
                 some = h .some;
                 is = h .is;
-                fit = subst (λ (r : TimeRule). AllFit (sh .stamped) r (tab n (entryOn sh bs))) (k .rule-is) (h .fit);
+                fit = subst (λ (r : TimeRule). AllFit (sh .form) r (tab n (entryOn sh bs))) (k .rule-is) (h .fit);
               }),
         )
 

@@ -1,4 +1,3 @@
-pub mod Times
 pub mod Walking
 pub mod Reading
 pub mod Blocks

@@ -10,11 +10,12 @@ use lib.Seq.{drop-cons, set-at}
 use lib.Dec.{eqb}
 use borrow.Author.Tests.{eqb-true, le-leb, lt-leb, lt-ltb, le-ltb}
 use Rattle.units.specs.Choice.{pick}
-use Rattle.body.specs.Walk.{fault, openBody, stampLength, headAt, blockEnd, blockAt, stopAt, ending, walkFrom, walk}
+use Rattle.body.specs.Walk.{openBody, stampLength, headAt, blockEnd, blockAt, stopAt, ending, walkFrom, walk}
+use Rattle.terms.specs.Refusals.{fault}
 use Rattle.body.specs.Answers.{checkBody, messageOf, messageOpened, messageIn, pickCounted, messageAt, tab, filled, listCounted, listOf}
-use Rattle.body.specs.declared.Refusal.{Refusal}
+use Rattle.terms.specs.declared.Refusal.{Refusal}
 use Rattle.body.specs.declared.Shape.{Shape}
-use Rattle.body.specs.declared.TimeRule.{TimeRule}
+use Rattle.terms.specs.declared.TimeRule.{TimeRule}
 use Rattle.body.specs.declared.Opened.{Opened}
 use Rattle.body.specs.declared.Opened.the-variants.{Shaped}
 use Rattle.body.specs.declared.Message.{Message}
@@ -24,6 +25,7 @@ use Rattle.body.specs.declared.Checked.{Checked}
 use Rattle.body.specs.declared.Checked.the-variants.{Counted, Faulty}
 use Rattle.body.specs.declared.Picked.the-variants.{One, Missing}
 use Rattle.body.specs.declared.Listed.the-variants.{Count, Unlisted, NoRoom}
+use Rattle.body.proofs.Blocks.{says-short}
 use Rattle.body.proofs.Walking.{found-stands, Walking, walking-first, walking-next, walk-stop, walk-broken, walk-found}
 
 -- ---- a body that has n messages
@@ -97,10 +99,10 @@ module _ (sh : Shape) (bs : List ℕ) (n k at : ℕ) (now : ReadingBody sh bs n 
       go (Found m next) e = (m, next, e)
       go (Broken r) e = absurd (reading-whole sh bs n k at now more r e)
 
-  pub reading-fits : at + stampLength (sh .stamped) + 4 ≤ length bs
+  pub reading-fits : at + stampLength (sh .form) + 4 ≤ length bs
   reading-fits = let f = found-head in found-stands sh bs at (f .0) (f .1) (f .2) .head
 
-  pub reading-ahead : (m : Message) → m ≡ headAt (sh .stamped) bs at → Ahead sh bs n k at m
+  pub reading-ahead : (m : Message) → m ≡ headAt (sh .form) bs at → Ahead sh bs n k at m
   unfolding headAt
   reading-ahead m is =
       let f = found-head in
@@ -111,7 +113,7 @@ module _ (sh : Shape) (bs : List ℕ) (n k at : ℕ) (now : ReadingBody sh bs n 
         next = rw (← same, ← s .next-is) (reading-next sh bs n k at now more (f .0) (f .1) (f .2));
         fits = rw (← same, ← s .next-is) (s .fits);
         some = rw (← same) (s .some);
-        short = omega (arith, ap (λ (x : Message). x .length) is);
+        short = says-short _ _ _ _ is;
       }
 
 -- the k-th message of a body whose shape is known

@@ -7,7 +7,8 @@ use native.Mathlib.Omega.{arith}
 use lib.ListN.{length}
 use lib.Dec.{leb}
 use borrow.Author.Tests.{lt-ltb, lt-leb, le-ltb}
-use Rattle.body.specs.Walk.{fault, stampLength, headAt, judge, blockAt, stopAt, walk}
+use Rattle.body.specs.Walk.{stampLength, headAt, judge, blockAt, stopAt, walk}
+use Rattle.terms.specs.Refusals.{fault}
 use Rattle.body.specs.inner.Walks.{past}
 use Rattle.body.specs.declared.Shape.{Shape}
 use Rattle.body.specs.declared.Message.{Message}
@@ -18,19 +19,19 @@ use Rattle.body.proofs.Walking.{Counting, counting-broken, counting-nex
 use Rattle.body.proofs.Bounds.{broken-at}
 
 -- a head that is not whole, whether or not anything stands there
-pub cut-short : (sh : Shape) (bs : List ℕ) (at : ℕ) → length bs < at + stampLength (sh .stamped) + 4 → 0 ≡ past (blockAt sh bs at)
+pub cut-short : (sh : Shape) (bs : List ℕ) (at : ℕ) → length bs < at + stampLength (sh .form) + 4 → 0 ≡ past (blockAt sh bs at)
 unfolding blockAt
 cut-short sh bs at h = go (leb (length bs) at) refl
   where
     go : (b : Bool) → leb (length bs) at ≡ b → 0 ≡ past (blockAt sh bs at)
     go true e = simp e
-    go false e = simp (e, lt-ltb (length bs) (at + stampLength (sh .stamped) + 4) h)
+    go false e = simp (e, lt-ltb (length bs) (at + stampLength (sh .form) + 4) h)
 
 -- a head that is whole is judged
-pub judged : (sh : Shape) (bs : List ℕ) (at : ℕ) (m : Message) → at + stampLength (sh .stamped) + 4 ≤ length bs → m ≡ headAt (sh .stamped) bs at
+pub judged : (sh : Shape) (bs : List ℕ) (at : ℕ) (m : Message) → at + stampLength (sh .form) + 4 ≤ length bs → m ≡ headAt (sh .form) bs at
     → judge (sh .rule) bs at m ≡ blockAt sh bs at
 unfolding blockAt
-judged sh bs at m h e = simp (lt-leb (length bs) at (omega (arith, h)), le-ltb (length bs) (at + stampLength (sh .stamped) + 4) h, e)
+judged sh bs at m h e = simp (lt-leb (length bs) at (omega (arith, h)), le-ltb (length bs) (at + stampLength (sh .form) + 4) h, e)
 
 -- a turn of the loop, where next is what the block at `at` comes to: 0 ends the walk with a fault there, any other number goes on
 module _ (sh : Shape) (bs : List ℕ) (k at next : ℕ) (now : Counting sh bs k at) (on : stopAt sh (length bs) k at ≡ false) (is : next ≡ past (blockAt sh bs at)) where

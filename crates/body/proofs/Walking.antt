@@ -11,10 +11,11 @@ use borrow.Author.Tests.{ltb-false, eqb-false, not-false, lt-leb, lt-ltb, le-ltb
 use Rattle.units.specs.Units.{part, field, zeros}
 use Rattle.units.specs.Choice.{pick}
 use Rattle.units.proofs.Choices.{passed}
-use Rattle.body.specs.Times.{timeOk}
-use Rattle.body.specs.Walk.{fault, opens, messageShape, uartShape, openBody, stampLength, headAt, blockEnd, judge, blockAt, spot, stopAt, ending, after, walkFrom, walk}
-use Rattle.body.specs.declared.TimeRule.{TimeRule}
-use Rattle.body.specs.declared.Refusal.{Refusal}
+use Rattle.terms.specs.Times.{timeOk}
+use Rattle.body.specs.Walk.{opens, shapeBy, openBody, stampLength, headAt, blockEnd, judge, blockAt, spot, stopAt, ending, after, walkFrom, walk}
+use Rattle.terms.specs.Refusals.{fault}
+use Rattle.terms.specs.declared.TimeRule.{TimeRule}
+use Rattle.terms.specs.declared.Refusal.{Refusal}
 use Rattle.body.specs.declared.Shape.{Shape}
 use Rattle.body.specs.declared.Opened.{Opened}
 use Rattle.body.specs.declared.Opened.the-variants.{Carried, Shaped, Wrong}
@@ -30,8 +31,8 @@ broken-found f m next e = let z : _≡_ {A = ℕ} 0 1 = cc in omega arith
 
 -- what a block that is found stands on
 pub record Stands (sh : Shape) (bs : List ℕ) (at : ℕ) (m : Message) (next : ℕ) : Type 0 where
-  pub head : at + stampLength (sh .stamped) + 4 ≤ length bs
-  pub says : m ≡ headAt (sh .stamped) bs at
+  pub head : at + stampLength (sh .form) + 4 ≤ length bs
+  pub says : m ≡ headAt (sh .form) bs at
   pub next-is : next ≡ blockEnd m
   pub fits : next ≤ length bs
   pub time-ok : timeOk (sh .rule) (m .time) ≡ true
@@ -41,27 +42,19 @@ pub record Stands (sh : Shape) (bs : List ℕ) (at : ℕ) (m : Message) (next : 
 pub found-stands : (sh : Shape) (bs : List ℕ) (at : ℕ) (m : Message) (next : ℕ) → blockAt sh bs at ≡ Found m next → Stands sh bs at m next
 unfolding blockAt judge
 found-stands sh bs at m next e =
-    let h = headAt (sh .stamped) bs at in
-    let no : Block = Broken (fault at) in
-    let x₅ : Block = Found h (blockEnd h) in
+    let h = headAt (sh .form) bs at in
     let pad = zeros (part bs (h .start + h .length) (h .length % 2)) in
-    let x₄ : Block = pick (not pad) no x₅ in
-    let x₃ : Block = pick (eqb (h .length) 0) no x₄ in
-    let x₂ : Block = pick (not (timeOk (sh .rule) (h .time))) no x₃ in
-    let x₁ : Block = pick (ltb (length bs) (blockEnd h)) no x₂ in
-    let x₀ : Block = pick (ltb (length bs) (at + stampLength (sh .stamped) + 4)) no x₁ in
-    let away = broken-found (fault at) m next in
-    let p₀ = passed (leb (length bs) at) no x₀ (Found m next) away e in
-    let p₁ = passed (ltb (length bs) (at + stampLength (sh .stamped) + 4)) no x₁ (Found m next) away (p₀ .1) in
-    let p₂ = passed (ltb (length bs) (blockEnd h)) no x₂ (Found m next) away (p₁ .1) in
-    let p₃ = passed (not (timeOk (sh .rule) (h .time))) no x₃ (Found m next) away (p₂ .1) in
-    let p₄ = passed (eqb (h .length) 0) no x₄ (Found m next) away (p₃ .1) in
-    let p₅ = passed (not pad) no x₅ (Found m next) away (p₄ .1) in
+    let p₀ = passed (leb (length bs) at) _ _ _ (broken-found _ m next) e in
+    let p₁ = passed (ltb (length bs) (at + stampLength (sh .form) + 4)) _ _ _ (broken-found _ m next) (p₀ .1) in
+    let p₂ = passed (ltb (length bs) (blockEnd h)) _ _ _ (broken-found _ m next) (p₁ .1) in
+    let p₃ = passed (not (timeOk (sh .rule) (h .time))) _ _ _ (broken-found _ m next) (p₂ .1) in
+    let p₄ = passed (eqb (h .length) 0) _ _ _ (broken-found _ m next) (p₃ .1) in
+    let p₅ = passed (not pad) _ _ _ (broken-found _ m next) (p₄ .1) in
     let is : h ≡ m = cc (p₅ .1) in
     let n : blockEnd h ≡ next = cc (p₅ .1) in
     let some : eqb (h .length) 0 ≡ false = p₄ .0 in
     record {
-      head = ltb-false (length bs) (at + stampLength (sh .stamped) + 4) (p₁ .0);
+      head = ltb-false (length bs) (at + stampLength (sh .form) + 4) (p₁ .0);
       says = sym is;
       next-is = sym n ∙ ap (λ (x : Message). blockEnd x) is;
       fits = omega (arith, ltb-false (length bs) (blockEnd h) (p₂ .0), n);
@@ -80,7 +73,7 @@ stands-found sh bs at m next s =
     rw (← s .says)
     (simp (
       lt-leb (length bs) at (omega (arith, s .head)),
-      le-ltb (length bs) (at + stampLength (sh .stamped) + 4) (s .head),
+      le-ltb (length bs) (at + stampLength (sh .form) + 4) (s .head),
       le-ltb (length bs) (blockEnd m) f,
       s .time-ok,
       ne-eqb (m .length) 0 (λ z. omega (arith, s .some, z)),
@@ -210,7 +203,7 @@ pub open-long : (kind : ℕ) (rule : TimeRule) (bs : List ℕ) (sh : Shape) → 
 unfolding openBody
 open-long kind rule bs sh e =
     let w = field bs 0 4 in
-    let x₁ : Opened = pick (eqb kind 0x30) (messageShape rule w) (uartShape rule w) in
+    let x₁ : Opened = shapeBy kind rule w in
     let x₀ : Opened = pick (ltb (length bs) 4) Wrong x₁ in
     let p = passed (not (opens kind)) Carried x₀ (Shaped sh) (λ q. let z : _≡_ {A = ℕ} 0 1 = cc in omega arith) e in
     let q = passed (ltb (length bs) 4) Wrong x₁ (Shaped sh) (λ q. let z : _≡_ {A = ℕ} 0 1 = cc in omega arith) (p .1) in

@@ -15,10 +15,11 @@ use Rattle.units.specs.Choice.{pick}
 use Rattle.units.proofs.Numbers.{length-bytesOf, num-bytesOf, zeros-replicate, zeros-are}
 use Rattle.units.proofs.Parts.{length-part, part-at, field-lt, bytesOf-field}
 use Rattle.units.proofs.Choices.{picked, passed, and-true}
-use Rattle.body.specs.Walk.{opens, counterOk, messageShape, uartShape, openBody, stampLength, headAt, blockAt, stopAt, walk}
+use Rattle.body.specs.Walk.{opens, counterOk, messageShape, uartShape, shapeBy, openBody, stampLength, lengthBy, headAt, blockAt, stopAt, walk}
 use Rattle.body.specs.Answers.{messageOf, tab}
 use Rattle.body.specs.Blocks.{Entry, noEntry, blockBytes, Fits, AllFit, blocksBytes, messageOn, entryAt}
-use Rattle.body.specs.declared.TimeRule.{TimeRule}
+use Rattle.terms.specs.declared.TimeRule.{TimeRule}
+use Rattle.body.specs.declared.Form.the-variants.{Stamped, Plain}
 use Rattle.body.specs.declared.Shape.{Shape}
 use Rattle.body.specs.declared.Opened.{Opened}
 use Rattle.body.specs.declared.Opened.the-variants.{Carried, Shaped, Wrong}
@@ -36,9 +37,9 @@ entryOn sh bs k = entryAt bs (messageOf sh bs k)
 
 -- ---- from blocks to a body that is accepted
 
-module _ (sh : Shape) (bs front rest : List ℕ) (e : Entry) (is : bs ≡ front ++ (blockBytes (sh .stamped) e ++ rest)) where
+module _ (sh : Shape) (bs front rest : List ℕ) (e : Entry) (is : bs ≡ front ++ (blockBytes (sh .form) e ++ rest)) where
   abbrev stampBytes : List ℕ
-  stampBytes = bytesOf (stampLength (sh .stamped)) (e .time)
+  stampBytes = bytesOf (stampLength (sh .form)) (e .time)
 
   abbrev wordBytes : List ℕ
   wordBytes = bytesOf 4 (e .id)
@@ -50,21 +51,21 @@ module _ (sh : Shape) (bs front rest : List ℕ) (e : Entry) (is : bs ≡ front 
   unfolding blockBytes
   split = is ∙ simp append-assoc
 
-  bytes-there : part bs (length front + stampLength (sh .stamped) + 4) (length (e .bytes)) ≡ e .bytes
+  bytes-there : part bs (length front + stampLength (sh .form) + 4) (length (e .bytes)) ≡ e .bytes
   bytes-there =
-      part-at bs (front ++ stampBytes ++ wordBytes) (e .bytes) (padBytes ++ rest) (length front + stampLength (sh .stamped) + 4) (length (e .bytes))
+      part-at bs (front ++ stampBytes ++ wordBytes) (e .bytes) (padBytes ++ rest) (length front + stampLength (sh .form) + 4) (length (e .bytes))
       (split ∙ simp append-assoc) (simp (length-append, length-bytesOf)) refl
 
-  pub stands-there : Fits (sh .stamped) (sh .rule) e
-      → Stands sh bs (length front) (messageOn (sh .stamped) (length front) e) (length (front ++ blockBytes (sh .stamped) e))
+  pub stands-there : Fits (sh .form) (sh .rule) e
+      → Stands sh bs (length front) (messageOn (sh .form) (length front) e) (length (front ++ blockBytes (sh .form) e))
   unfolding headAt
   stands-there ok =
       let n = length (e .bytes) in
-      let st = stampLength (sh .stamped) in
-      let l : length (front ++ blockBytes (sh .stamped) e) ≡ length front + st + 4 + n + n % 2 =
-      omega (arith, length-append front (blockBytes (sh .stamped) e), length-blockBytes (sh .stamped) e) in
+      let st = stampLength (sh .form) in
+      let l : length (front ++ blockBytes (sh .form) e) ≡ length front + st + 4 + n + n % 2 =
+      omega (arith, length-append front (blockBytes (sh .form) e), length-blockBytes (sh .form) e) in
       let lb : length bs ≡ length front + st + 4 + n + n % 2 + length rest =
-      omega (arith, simp length-append at (ap length is), length-blockBytes (sh .stamped) e) in
+      omega (arith, simp length-append at (ap length is), length-blockBytes (sh .form) e) in
       let pS : part bs (length front) st ≡ stampBytes =
       part-at bs front stampBytes (wordBytes ++ (e .bytes ++ (padBytes ++ rest))) (length front) st split refl (length-bytesOf st (e .time)) in
       let pI : part bs (length front + st) 4 ≡ wordBytes =
@@ -75,7 +76,7 @@ module _ (sh : Shape) (bs front rest : List ℕ) (e : Entry) (is : bs ≡ front 
       (simp (length-append, length-bytesOf)) (length-replicate (n % 2) 0) in
       let t : field bs (length front) st ≡ e .time = ap num pS ∙ num-bytesOf st (e .time) (ok .time-fits) in
       let i : field bs (length front + st) 4 ≡ e .id = ap num pI ∙ num-bytesOf 4 (e .id) (omega (arith, ok .word)) in
-      let s : n ≡ field bs (length front + st) 4 % 2 ^ 16 = rw i (ok .size) in
+      let s : n ≡ lengthBy (sh .form) (field bs (length front + st) 4) = rw i (ok .size) in
       record {
         head = omega arith;
         says = λ j. record { time = sym t j; id = sym i j; start = length front + st + 4; length = s j };
@@ -93,11 +94,11 @@ shift f g k n first more (suc i) h = let e : k + 1 + i ≡ k + suc i = omega ari
 -- n blocks up to the end of the body, where the walk stops and not before, are counted and reported where they stand
 module _ (sh : Shape) (bs : List ℕ) (n : ℕ) (stop : stopAt sh (length bs) n (length bs) ≡ true)
     (on : (k at : ℕ) → k < n → at < length bs → stopAt sh (length bs) k at ≡ false) where
-  pub walk-blocks : (es : List Entry) (front : List ℕ) (k : ℕ) → k + length es ≡ n → bs ≡ front ++ blocksBytes (sh .stamped) es
-      → AllFit (sh .stamped) (sh .rule) es → Counting sh bs k (length front)
+  pub walk-blocks : (es : List Entry) (front : List ℕ) (k : ℕ) → k + length es ≡ n → bs ≡ front ++ blocksBytes (sh .form) es
+      → AllFit (sh .form) (sh .rule) es → Counting sh bs k (length front)
       → (walk sh bs ≡ Counted n)
       × (tab n (entryOn sh bs) ≡ tab k (entryOn sh bs) ++ es)
-      × ((i : ℕ) → i < length es → messageOf sh bs (k + i) ≡ messageOn (sh .stamped) (length front + length (blocksBytes (sh .stamped) (take i es))) (getD es i noEntry))
+      × ((i : ℕ) → i < length es → messageOf sh bs (k + i) ≡ messageOn (sh .form) (length front + length (blocksBytes (sh .form) (take i es))) (getD es i noEntry))
   unfolding blocksBytes tab
   walk-blocks [] front k ends is fit now =
       let e : k ≡ n = omega arith in
@@ -109,24 +110,24 @@ module _ (sh : Shape) (bs : List ℕ) (n : ℕ) (stop : stopAt sh (length bs) n 
         λ i h. absurd (omega arith),
       )
   walk-blocks (e ∷ es) front k ends is fit now =
-      let block = blockBytes (sh .stamped) e in
-      let m = messageOn (sh .stamped) (length front) e in
+      let block = blockBytes (sh .form) e in
+      let m = messageOn (sh .form) (length front) e in
       let next = length (front ++ block) in
-      let f = stands-found sh bs (length front) m next (stands-there sh bs front (blocksBytes (sh .stamped) es) e is (fit .0)) in
+      let f = stands-found sh bs (length front) m next (stands-there sh bs front (blocksBytes (sh .form) es) e is (fit .0)) in
       let b = found-next sh bs (length front) m next f in
       let then = counting-next sh bs k (length front) now m next (on k (length front) (omega arith) (omega (arith, b .0, b .1))) f in
       let rest = walk-blocks es (front ++ block) (k + 1) (omega arith) (is ∙ simp append-assoc) (fit .1) then in
       let there : m ≡ messageOf sh bs k = walking-message sh bs k (length front) m next (now .0) f in
-      let here : entryOn sh bs k ≡ e = rw (← there, bytes-there sh bs front (blocksBytes (sh .stamped) es) e is) in
+      let here : entryOn sh bs k ≡ e = rw (← there, bytes-there sh bs front (blocksBytes (sh .form) es) e is) in
       let place : ℕ → Message =
-      λ i. messageOn (sh .stamped) (length front + length (blocksBytes (sh .stamped) (take i (e ∷ es)))) (getD (e ∷ es) i noEntry) in (
+      λ i. messageOn (sh .form) (length front + length (blocksBytes (sh .form) (take i (e ∷ es)))) (getD (e ∷ es) i noEntry) in (
         rest .0,
         rest .1 ∙ rw (add-one, tab, here) (append-snoc (tab k (entryOn sh bs)) e es),
-        shift (messageOf sh bs) place k (length es) (rw (add-zero, ← there) (ap (λ (at : ℕ). messageOn (sh .stamped) at e) (sym (add-zero (length front)))))
+        shift (messageOf sh bs) place k (length es) (rw (add-zero, ← there) (ap (λ (at : ℕ). messageOn (sh .form) at e) (sym (add-zero (length front)))))
             (λ i h.
-            let l : length (front ++ block) + length (blocksBytes (sh .stamped) (take i es)) ≡ length front + length (block ++ blocksBytes (sh .stamped) (take i es)) =
-            omega (arith, length-append front block, length-append block (blocksBytes (sh .stamped) (take i es))) in
-            rest .2 i h ∙ ap (λ (at : ℕ). messageOn (sh .stamped) at (getD es i noEntry)) l),
+            let l : length (front ++ block) + length (blocksBytes (sh .form) (take i es)) ≡ length front + length (block ++ blocksBytes (sh .form) (take i es)) =
+            omega (arith, length-append front block, length-append block (blocksBytes (sh .form) (take i es))) in
+            rest .2 i h ∙ ap (λ (at : ℕ). messageOn (sh .form) at (getD es i noEntry)) l),
       )
 
 -- the walk stops behind the last of n blocks, and not before
@@ -151,11 +152,11 @@ module _ (sh : Shape) (bs : List ℕ) (n : ℕ) where
 
 module _ (sh : Shape) (bs : List ℕ) (at : ℕ) (m : Message) (next : ℕ) (raw : Bytes bs) (found : blockAt sh bs at ≡ Found m next) where
   -- a block that is found is the bytes of what it reports
-  pub found-is : take next bs ≡ take at bs ++ blockBytes (sh .stamped) (entryAt bs m)
+  pub found-is : take next bs ≡ take at bs ++ blockBytes (sh .form) (entryAt bs m)
   unfolding headAt blockBytes
   found-is =
       let s = found-stands sh bs at m next found in
-      let st = stampLength (sh .stamped) in
+      let st = stampLength (sh .form) in
       let n = m .length in
       let t : m .time ≡ field bs at st = ap (λ (x : Message). x .time) (s .says) in
       let i : m .id ≡ field bs (at + st) 4 = ap (λ (x : Message). x .id) (s .says) in
@@ -176,14 +177,14 @@ module _ (sh : Shape) (bs : List ℕ) (at : ℕ) (m : Message) (next : ℕ) (raw
       (take-add (at + st) 4 bs ∙ ap (λ (l : List ℕ). l ++ part bs (at + st) 4) (take-add at st bs))) in
       rw (e, whole, lB, pS, pI, ← pZ, b) (simp append-assoc)
 
-  pub found-fits : Fits (sh .stamped) (sh .rule) (entryAt bs m)
+  pub found-fits : Fits (sh .form) (sh .rule) (entryAt bs m)
   unfolding headAt
   found-fits =
       let s = found-stands sh bs at m next found in
-      let st = stampLength (sh .stamped) in
+      let st = stampLength (sh .form) in
       let t : m .time ≡ field bs at st = ap (λ (x : Message). x .time) (s .says) in
       let i : m .id ≡ field bs (at + st) 4 = ap (λ (x : Message). x .id) (s .says) in
-      let n : m .length ≡ field bs (at + st) 4 % 2 ^ 16 = ap (λ (x : Message). x .length) (s .says) in
+      let n : m .length ≡ lengthBy (sh .form) (field bs (at + st) 4) = ap (λ (x : Message). x .length) (s .says) in
       let lB : length (part bs (m .start) (m .length)) ≡ m .length = length-part bs (m .start) (m .length) (omega (arith, s .next-is, s .fits)) in
       record {
         some = omega (arith, s .some);
@@ -195,8 +196,8 @@ module _ (sh : Shape) (bs : List ℕ) (at : ℕ) (m : Message) (next : ℕ) (raw
 
 -- the walk has come to `at` by k blocks, and no further than it may
 pub record Come (sh : Shape) (bs : List ℕ) (k at : ℕ) : Type 0 where
-  pub is : take at bs ≡ take 4 bs ++ blocksBytes (sh .stamped) (tab k (entryOn sh bs))
-  pub fit : AllFit (sh .stamped) (sh .rule) (tab k (entryOn sh bs))
+  pub is : take at bs ≡ take 4 bs ++ blocksBytes (sh .form) (tab k (entryOn sh bs))
+  pub fit : AllFit (sh .form) (sh .rule) (tab k (entryOn sh bs))
   pub within : sh .counted ≡ true → k ≤ sh .count
 
 pub come-first : (sh : Shape) (bs : List ℕ) → Come sh bs 0 4
@@ -210,11 +211,11 @@ come-next sh bs k at m next raw there on found come =
     let e : entryOn sh bs k ≡ entryAt bs m = ap (entryAt bs) (sym (walking-message sh bs k at m next there found)) in
     record {
       is =
-          rw (add-one, tab, blocks-snoc (sh .stamped) (tab k (entryOn sh bs)) (entryOn sh bs k), e)
-          (found-is sh bs at m next raw found ∙ ap (λ (l : List ℕ). l ++ blockBytes (sh .stamped) (entryAt bs m)) (come .is)
-          ∙ append-assoc (take 4 bs) (blocksBytes (sh .stamped) (tab k (entryOn sh bs))) (blockBytes (sh .stamped) (entryAt bs m)));
+          rw (add-one, tab, blocks-snoc (sh .form) (tab k (entryOn sh bs)) (entryOn sh bs k), e)
+          (found-is sh bs at m next raw found ∙ ap (λ (l : List ℕ). l ++ blockBytes (sh .form) (entryAt bs m)) (come .is)
+          ∙ append-assoc (take 4 bs) (blocksBytes (sh .form) (tab k (entryOn sh bs))) (blockBytes (sh .form) (entryAt bs m)));
       fit =
-          rw (add-one, tab, e) (fit-snoc (sh .stamped) (sh .rule) (tab k (entryOn sh bs)) (entryAt bs m) (come .fit) (found-fits sh bs at m next raw found));
+          rw (add-one, tab, e) (fit-snoc (sh .form) (sh .rule) (tab k (entryOn sh bs)) (entryAt bs m) (come .fit) (found-fits sh bs at m next raw found));
       within = λ c. omega (arith, leb-false (sh .count) k (rw c at on));
     }
 
@@ -235,8 +236,8 @@ stop-some sh len k at s least = go (sh .counted) refl s
 pub record HoldsBlocks (sh : Shape) (bs : List ℕ) (es : List Entry) : Type 0 where
   pub counted : sh .counted ≡ true → length es ≡ sh .count
   pub some : 0 < length es
-  pub is : bs ≡ take 4 bs ++ blocksBytes (sh .stamped) es
-  pub fit : AllFit (sh .stamped) (sh .rule) es
+  pub is : bs ≡ take 4 bs ++ blocksBytes (sh .form) es
+  pub fit : AllFit (sh .form) (sh .rule) es
 
 module _ (sh : Shape) (bs : List ℕ) (n : ℕ) (raw : Bytes bs) (least : sh .counted ≡ true → 0 < sh .count) where
   holds-last : (k at : ℕ) → ReadingBody sh bs n k at → Come sh bs k at → stopAt sh (length bs) k at ≡ true → HoldsBlocks sh bs (tab n (entryOn sh bs))
@@ -270,20 +271,20 @@ module _ (sh : Shape) (bs : List ℕ) (n : ℕ) (raw : Bytes bs) (least : sh .co
 
 -- what is known of the shape that a body opens to: `message` says whether its type is 0x30, `word` is its channel word
 pub record Known (message : Bool) (rule : TimeRule) (word : ℕ) (sh : Shape) : Type 0 where
-  pub stamps : (message || leb (2 ^ 31) word) ≡ sh .stamped
+  pub form-is : pick (message || leb (2 ^ 31) word) Stamped Plain ≡ sh .form
   pub rule-is : sh .rule ≡ rule
   pub least : sh .counted ≡ true → 0 < sh .count
 
 known-message : (rule : TimeRule) (word : ℕ) (sh : Shape) → messageShape rule word ≡ Shaped sh → Known true rule word sh
 unfolding messageShape
 known-message rule word sh e =
-    let as-is : Shape = record { stamped = true; counted = true; count = pick (eqb (word / 2 ^ 16) 0) (word % 2 ^ 16) 1; rule = rule } in
+    let as-is : Shape = record { form = Stamped; counted = true; count = pick (eqb (word / 2 ^ 16) 0) (word % 2 ^ 16) 1; rule = rule } in
     let p =
     picked (ltb word (2 ^ 18) && counterOk (word / 2 ^ 16) (word % 2 ^ 16)) (Shaped as-is) Wrong (Shaped sh)
     (λ q. let z : _≡_ {A = ℕ} 0 1 = cc in omega arith) e in
     let is : as-is ≡ sh = cc (p .1) in
     let q = and-true (ltb word (2 ^ 18)) (counterOk (word / 2 ^ 16) (word % 2 ^ 16)) (p .0) in
-    record { stamps = rw (← is) refl; rule-is = rw (← is) refl; least = λ c. rw (← is) (least (word / 2 ^ 16) (word % 2 ^ 16) (q .1)) }
+    record { form-is = rw (← is) refl; rule-is = rw (← is) refl; least = λ c. rw (← is) (least (word / 2 ^ 16) (word % 2 ^ 16) (q .1)) }
   where
     least : (t counter : ℕ) → counterOk t counter ≡ true → 0 < pick (eqb t 0) counter 1
     least zero zero e = let z : _≡_ {A = ℕ} 0 1 = cc in absurd (omega arith)
@@ -293,16 +294,16 @@ known-message rule word sh e =
 known-uart : (rule : TimeRule) (word : ℕ) (sh : Shape) → uartShape rule word ≡ Shaped sh → Known false rule word sh
 unfolding uartShape
 known-uart rule word sh e =
-    let as-is : Shape = record { stamped = leb (2 ^ 31) word; counted = false; count = 0; rule = rule } in
+    let as-is : Shape = record { form = pick (leb (2 ^ 31) word) Stamped Plain; counted = false; count = 0; rule = rule } in
     let p = picked (eqb (word % 2 ^ 31) 0) (Shaped as-is) Wrong (Shaped sh) (λ q. let z : _≡_ {A = ℕ} 0 1 = cc in omega arith) e in
     let is : as-is ≡ sh = cc (p .1) in
-    record { stamps = rw (← is) refl; rule-is = rw (← is) refl; least = λ c. let d : sh .counted ≡ false = rw (← is) refl in let z : _≡_ {A = ℕ} 0 1 = cc in absurd (omega arith) }
+    record { form-is = rw (← is) refl; rule-is = rw (← is) refl; least = λ c. let d : sh .counted ≡ false = rw (← is) refl in let z : _≡_ {A = ℕ} 0 1 = cc in absurd (omega arith) }
 
 pub known : (kind : ℕ) (rule : TimeRule) (bs : List ℕ) (sh : Shape) → openBody kind rule bs ≡ Shaped sh → Known (eqb kind 0x30) rule (field bs 0 4) sh
 unfolding openBody
 known kind rule bs sh e =
     let w = field bs 0 4 in
-    let x₁ : Opened = pick (eqb kind 0x30) (messageShape rule w) (uartShape rule w) in
+    let x₁ : Opened = shapeBy kind rule w in
     let x₀ : Opened = pick (ltb (length bs) 4) Wrong x₁ in
     let p = passed (not (opens kind)) Carried x₀ (Shaped sh) (λ q. let z : _≡_ {A = ℕ} 0 1 = cc in omega arith) e in
     let q = passed (ltb (length bs) 4) Wrong x₁ (Shaped sh) (λ q. let z : _≡_ {A = ℕ} 0 1 = cc in omega arith) (p .1) in
@@ -317,7 +318,7 @@ pub open-not-carried : (kind : ℕ) (rule : TimeRule) (bs : List ℕ) → opens 
 unfolding openBody messageShape uartShape
 open-not-carried kind rule bs o e =
     let w = field bs 0 4 in
-    let x : Opened = pick (eqb kind 0x30) (messageShape rule w) (uartShape rule w) in
+    let x : Opened = shapeBy kind rule w in
     let t : not (opens kind) ≡ false = rw o refl in
     let q : pick (ltb (length bs) 4) Wrong x ≡ Carried = rw t at e in
     let p = passed (ltb (length bs) 4) Wrong x Carried (λ q. let z : _≡_ {A = ℕ} 0 1 = cc in omega arith) q in
@@ -329,5 +330,5 @@ open-not-carried kind rule bs o e =
 
     go : (t : Bool) (w : ℕ) → pick t (messageShape rule w) (uartShape rule w) ≡ Carried → ⊥
     go true w e =
-        never (ltb w (2 ^ 18) && counterOk (w / 2 ^ 16) (w % 2 ^ 16)) (record { stamped = true; counted = true; count = pick (eqb (w / 2 ^ 16) 0) (w % 2 ^ 16) 1; rule = rule }) e
-    go false w e = never (eqb (w % 2 ^ 31) 0) (record { stamped = leb (2 ^ 31) w; counted = false; count = 0; rule = rule }) e
+        never (ltb w (2 ^ 18) && counterOk (w / 2 ^ 16) (w % 2 ^ 16)) (record { form = Stamped; counted = true; count = pick (eqb (w / 2 ^ 16) 0) (w % 2 ^ 16) 1; rule = rule }) e
+    go false w e = never (eqb (w % 2 ^ 31) 0) (record { form = pick (leb (2 ^ 31) w) Stamped Plain; counted = false; count = 0; rule = rule }) e

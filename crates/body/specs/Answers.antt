@@ -4,8 +4,9 @@ use Prim.Native.Nat.{ℕ, zero, suc, _+_, min}
 use lib.ListN.{drop}
 use lib.Dec.{ltb, leb}
 use Rattle.units.specs.Choice.{pick}
-use Rattle.body.specs.Walk.{fault, openBody, blockAt, spot, walk}
-use Rattle.body.specs.declared.TimeRule.{TimeRule}
+use Rattle.body.specs.Walk.{openBody, blockAt, spot, walk}
+use Rattle.terms.specs.Refusals.{fault}
+use Rattle.terms.specs.declared.TimeRule.{TimeRule}
 use Rattle.body.specs.declared.Shape.{Shape}
 use Rattle.body.specs.declared.Opened.{Opened}
 use Rattle.body.specs.declared.Opened.the-variants.{Carried, Shaped, Wrong}

@@ -1,14 +1,15 @@
 -- A body as the blocks it holds: what is built, and what an accepted body is.
 use mathlib.Core.List.{List, [], _∷_, _++_}
 use mathlib.Core.Path.{_≡_}
-use mathlib.Core.Bool.{Bool, true}
+use mathlib.Core.Bool.{true}
 use Prim.Native.Nat.{ℕ, _+_, _%_, _^_, _<_}
 use lib.ListN.{length, take, replicate}
 use Rattle.units.specs.Units.{part, bytesOf}
-use Rattle.body.specs.Times.{timeOk}
-use Rattle.body.specs.Walk.{openBody, stampLength}
+use Rattle.terms.specs.Times.{timeOk}
+use Rattle.body.specs.Walk.{openBody, stampLength, lengthBy}
 use Rattle.body.specs.Answers.{messageIn, tab}
-use Rattle.body.specs.declared.TimeRule.{TimeRule}
+use Rattle.terms.specs.declared.TimeRule.{TimeRule}
+use Rattle.body.specs.declared.Form.{Form}
 use Rattle.body.specs.declared.Shape.{Shape}
 use Rattle.body.specs.declared.Message.{Message}
 use Rattle.body.specs.declared.Opened.the-variants.{Shaped}
@@ -23,30 +24,30 @@ abbrev pub noEntry : Entry
 noEntry = record { time = 0; id = 0; bytes = [] }
 
 -- a block: a time stamp of 8 bytes or none, an ID word of 4, the n bytes, then one zero pad byte if n is odd
-unfoldable pub blockBytes : Bool → Entry → List ℕ
-blockBytes stamped e =
-    bytesOf (stampLength stamped) (e .time) ++ bytesOf 4 (e .id) ++ e .bytes ++ replicate (length (e .bytes) % 2) 0
+unfoldable pub blockBytes : Form → Entry → List ℕ
+blockBytes form e =
+    bytesOf (stampLength form) (e .time) ++ bytesOf 4 (e .id) ++ e .bytes ++ replicate (length (e .bytes) % 2) 0
 
--- a block that keeps the rules: n is bits 15-0 of the ID word, 1 to 65,535, and the time is in form, 0 where none is stored
-pub record Fits (stamped : Bool) (rule : TimeRule) (e : Entry) : Type 0 where
+-- a block that keeps the rules: n is what the ID word says, at least 1, and the time is in form, 0 where none is stored
+pub record Fits (form : Form) (rule : TimeRule) (e : Entry) : Type 0 where
   pub some : 0 < length (e .bytes)
-  pub size : length (e .bytes) ≡ e .id % 2 ^ 16
+  pub size : length (e .bytes) ≡ lengthBy form (e .id)
   pub word : e .id < 2 ^ 32
-  pub time-fits : e .time < 256 ^ stampLength stamped
+  pub time-fits : e .time < 256 ^ stampLength form
   pub time-ok : timeOk rule (e .time) ≡ true
 
-abbrev pub AllFit : Bool → TimeRule → List Entry → Type 0
-AllFit stamped rule [] = Unit {0}
-AllFit stamped rule (e ∷ es) = Fits stamped rule e × AllFit stamped rule es
+abbrev pub AllFit : Form → TimeRule → List Entry → Type 0
+AllFit form rule [] = Unit {0}
+AllFit form rule (e ∷ es) = Fits form rule e × AllFit form rule es
 
 -- blocks, one behind the other
-unfoldable pub blocksBytes : Bool → List Entry → List ℕ
-blocksBytes stamped [] = []
-blocksBytes stamped (e ∷ es) = blockBytes stamped e ++ blocksBytes stamped es
+unfoldable pub blocksBytes : Form → List Entry → List ℕ
+blocksBytes form [] = []
+blocksBytes form (e ∷ es) = blockBytes form e ++ blocksBytes form es
 
 -- the message that a block at `at` is reported as
-abbrev pub messageOn : Bool → ℕ → Entry → Message
-messageOn stamped at e = record { time = e .time; id = e .id; start = at + stampLength stamped + 4; length = length (e .bytes) }
+abbrev pub messageOn : Form → ℕ → Entry → Message
+messageOn form at e = record { time = e .time; id = e .id; start = at + stampLength form + 4; length = length (e .bytes) }
 
 -- what a message reports, its bytes taken out of the body
 abbrev pub entryAt : List ℕ → Message → Entry
@@ -62,5 +63,5 @@ pub record BodyOf (kind : ℕ) (rule : TimeRule) (bs : List ℕ) (es : List Entr
   pub opened : openBody kind rule bs ≡ Shaped shape
   pub counted : shape .counted ≡ true → length es ≡ shape .count
   pub some : 0 < length es
-  pub is : bs ≡ take 4 bs ++ blocksBytes (shape .stamped) es
-  pub fit : AllFit (shape .stamped) rule es
+  pub is : bs ≡ take 4 bs ++ blocksBytes (shape .form) es
+  pub fit : AllFit (shape .form) rule es

@@ -1,4 +1,3 @@
-pub mod Times
 pub mod Walk
 pub mod Answers
 pub mod Blocks

@@ -7,9 +7,11 @@ use lib.ListN.{length}
 use lib.Dec.{ltb, leb, eqb}
 use Rattle.units.specs.Units.{part, field, zeros}
 use Rattle.units.specs.Choice.{pick}
-use Rattle.body.specs.Times.{timeOk}
-use Rattle.body.specs.declared.TimeRule.{TimeRule}
-use Rattle.body.specs.declared.Refusal.{Refusal}
+use Rattle.terms.specs.Refusals.{fault}
+use Rattle.terms.specs.Times.{timeOk}
+use Rattle.terms.specs.declared.TimeRule.{TimeRule}
+use Rattle.body.specs.declared.Form.{Form}
+use Rattle.body.specs.declared.Form.the-variants.{Stamped, Plain}
 use Rattle.body.specs.declared.Shape.{Shape}
 use Rattle.body.specs.declared.Opened.{Opened}
 use Rattle.body.specs.declared.Opened.the-variants.{Carried, Shaped, Wrong}
@@ -19,69 +21,71 @@ use Rattle.body.specs.declared.Block.the-variants.{Found, Broken}
 use Rattle.body.specs.declared.Checked.{Checked}
 use Rattle.body.specs.declared.Checked.the-variants.{Counted, Faulty}
 
--- a refusal: its number and place, and the room needed for 16
-abbrev pub refused : ℕ → ℕ → ℕ → Refusal
-refused number place room = record { number = number; place = place; room = room }
-
--- 15: an opened body breaks its layout, at the channel word or the first byte of the block at fault
--- (or of the bytes left over, or where a missing block should begin)
-abbrev pub fault : ℕ → Refusal
-fault place = refused 15 place 0
-
 -- ---- the channel word
 
 -- 0x30 (Message) and 0x50 (UART) are opened; every other type is carried
 abbrev pub opens : ℕ → Bool
 opens kind = eqb kind 0x30 || eqb kind 0x50
 
--- 0x30, by the type in bits 17-16, `form` here: type 00, the counter is the number of blocks, at least 1; type 01, counter 1;
+-- 0x30, by the type, `bits` 17-16: type 00, the counter is the number of blocks, at least 1; type 01, counter 1;
 -- types 10 and 11, counter at least 2
 abbrev pub counterOk : ℕ → ℕ → Bool
-counterOk form counter = (eqb form 0 && ltb 0 counter) || (eqb form 1 && eqb counter 1) || (ltb 1 form && ltb 1 counter)
+counterOk bits counter = (eqb bits 0 && ltb 0 counter) || (eqb bits 1 && eqb counter 1) || (ltb 1 bits && ltb 1 counter)
 
 -- 0x30: bits 31-18 are zero, bits 17-16 the type, bits 15-0 the counter; one block but in type 00; always a time stamp
 unfoldable pub messageShape : TimeRule → ℕ → Opened
 messageShape rule word =
     pick (ltb word (2 ^ 18) && counterOk (word / 2 ^ 16) (word % 2 ^ 16))
-    (Shaped (record { stamped = true; counted = true; count = pick (eqb (word / 2 ^ 16) 0) (word % 2 ^ 16) 1; rule = rule }))
+    (Shaped (record { form = Stamped; counted = true; count = pick (eqb (word / 2 ^ 16) 0) (word % 2 ^ 16) 1; rule = rule }))
     Wrong
 
 -- 0x50: bits 30-0 are zero, a time stamp if bit 31 is set; one or more blocks, to the end of the body
 unfoldable pub uartShape : TimeRule → ℕ → Opened
 uartShape rule word =
     pick (eqb (word % 2 ^ 31) 0)
-    (Shaped (record { stamped = leb (2 ^ 31) word; counted = false; count = 0; rule = rule }))
+    (Shaped (record { form = pick (leb (2 ^ 31) word) Stamped Plain; counted = false; count = 0; rule = rule }))
     Wrong
+
+-- what a channel word says, by the type
+abbrev pub shapeBy : ℕ → TimeRule → ℕ → Opened
+shapeBy kind rule word = pick (eqb kind 0x30) (messageShape rule word) (uartShape rule word)
 
 -- a body of an opened type starts with its channel word, which is judged whole and first
 unfoldable pub openBody : ℕ → TimeRule → List ℕ → Opened
 openBody kind rule bs =
     pick (not (opens kind)) Carried
     (pick (ltb (length bs) 4) Wrong
-    (pick (eqb kind 0x30) (messageShape rule (field bs 0 4)) (uartShape rule (field bs 0 4))))
+    (shapeBy kind rule (field bs 0 4)))
 
 -- ---- one block
 
+-- all that differs between the blocks of opened types goes by their form, in these two definitions
+
 -- a time stamp of 8 bytes, or none
-unfoldable pub stampLength : Bool → ℕ
-stampLength stamped = pick stamped 8 0
+unfoldable pub stampLength : Form → ℕ
+stampLength Stamped = 8
+stampLength Plain = 0
+
+-- n, by the ID word: its bits 15-0, in either form
+unfoldable pub lengthBy : Form → ℕ → ℕ
+lengthBy form id = id % 2 ^ 16
 
 -- behind n bytes that begin at `start`, and one pad byte if n is odd
 abbrev pub paddedEnd : ℕ → ℕ → ℕ
 paddedEnd start n = start + n + n % 2
 
 -- the size of a block: its time stamp, its ID word of 4 bytes, its n bytes and their pad
-abbrev pub blockSize : Bool → ℕ → ℕ
-blockSize stamped n = paddedEnd (stampLength stamped + 4) n
+abbrev pub blockSize : Form → ℕ → ℕ
+blockSize form n = paddedEnd (stampLength form + 4) n
 
--- what the head of a block at `at` says: time (0 if none is stored), ID word, and its n bytes; n is bits 15-0 of the ID word
-unfoldable pub headAt : Bool → List ℕ → ℕ → Message
-headAt stamped bs at =
+-- what the head of a block at `at` says: time (0 if none is stored), ID word, and the place and number of its bytes
+unfoldable pub headAt : Form → List ℕ → ℕ → Message
+headAt form bs at =
     record {
-      time = field bs at (stampLength stamped);
-      id = field bs (at + stampLength stamped) 4;
-      start = at + stampLength stamped + 4;
-      length = field bs (at + stampLength stamped) 4 % 2 ^ 16;
+      time = field bs at (stampLength form);
+      id = field bs (at + stampLength form) 4;
+      start = at + stampLength form + 4;
+      length = lengthBy form (field bs (at + stampLength form) 4);
     }
 
 -- behind a block, by what its head says
@@ -101,8 +105,8 @@ judge rule bs at m =
 unfoldable pub blockAt : Shape → List ℕ → ℕ → Block
 blockAt sh bs at =
     pick (leb (length bs) at) (Broken (fault at))
-    (pick (ltb (length bs) (at + stampLength (sh .stamped) + 4)) (Broken (fault at))
-    (judge (sh .rule) bs at (headAt (sh .stamped) bs at)))
+    (pick (ltb (length bs) (at + stampLength (sh .form) + 4)) (Broken (fault at))
+    (judge (sh .rule) bs at (headAt (sh .form) bs at)))
 
 -- ---- the walk
 
@@ -129,7 +133,7 @@ after (Broken f) rest = Faulty f
 
 -- the walk from the k-th block on, in fewer than f turns more; it has always stopped before they run out (walk-enough)
 unfoldable pub walkFrom : Shape → List ℕ → ℕ → ℕ → Checked
-walkFrom sh bs zero k = Faulty (fault (spot sh bs k))
+walkFrom sh bs zero k = ending (length bs) k (spot sh bs k)
 walkFrom sh bs (suc f) k =
     pick (stopAt sh (length bs) k (spot sh bs k))
     (ending (length bs) k (spot sh bs k))

@@ -3,38 +3,31 @@
 ghost use mathlib.Core.Path.{_≡_};
 ghost use Prim.Native.Nat.{_+_, _≤_, _^_};
 ghost use lib.ListN.{length};
-ghost use Rattle.body.specs.Walk.{refused, fault};
 ghost use Rattle.body.specs.Answers.{checkBody, messageAt, listOf, messageIn, filledAfter, startsOf, lengthsOf};
 
 mod list;
 pub mod opening;
-pub mod time;
 pub mod walk;
 
 use list::fill_lists;
 use list::seek;
 use opening::opens_kind;
+use terms::Refusal;
+use terms::TimeRule;
 use walk::walk_body;
+use walk::walk_refusal;
 
-// How the times of a body's messages, or a secondary header's time, are formed.
-pub enum TimeRule {
-    Counter,
-    Chapter4,
-    Ieee1588,
-    Extended,
+// How a block is formed, which is all that differs between the blocks of the opened types: without a time stamp ahead of its ID
+// word, or with one.
+pub enum Form {
+    Plain,
+    Stamped,
 }
 
-// A refusal: document 01's number, the place, and the room needed (16; otherwise 0).
-pub struct Refusal {
-    pub number: u8,
-    pub place: usize,
-    pub room: usize,
-}
-
-// What the channel word says of the blocks behind it: whether each has a time stamp, whether there are `count` of them
-// (or one or more, to the end of the body), and the rule of their times.
+// What the channel word says of the blocks behind it: their form, whether there are `count` of them (or one or more, to the end
+// of the body), and the rule of their times.
 pub struct Shape {
-    pub stamped: bool,
+    pub form: Form,
     pub counted: bool,
     pub count: usize,
     pub rule: TimeRule,
@@ -96,7 +89,7 @@ pub fn check_body(body: &[u8], kind: u8, rule: TimeRule) -> Checked
     }
     let walked = walk_body(body, kind, rule);
     if walked.count == 0 {
-        return Checked::Faulty(fault(walked.place));
+        return Checked::Faulty(walk_refusal(walked));
     }
     Checked::Counted(walked.count)
 }
@@ -147,22 +140,4 @@ pub fn list_messages(
         }
         Checked::Faulty(f) => Listed::Unlisted(f),
     }
-}
-
-// The one place where a refusal is made.
-pub fn refuse(number: u8, place: usize, room: usize) -> Refusal
-    ensures { λ r. ⌜ r ≡ refused number place room ⌝ }
-{
-    Refusal {
-        number,
-        place,
-        room,
-    }
-}
-
-// 15: the body breaks its layout there.
-pub fn fault(place: usize) -> Refusal
-    ensures { λ r. ⌜ r ≡ fault place ⌝ }
-{
-    refuse(15, place, 0)
 }

@@ -6,25 +6,25 @@ ghost use lib.ListN.{length};
 ghost use Rattle.body.specs.Answers.{checkBody, messageIn, filled, startsOf, lengthsOf};
 use crate::Checked;
 use crate::Message;
-use crate::TimeRule;
-use crate::opening::stamps;
+use crate::opening::form_in;
 use crate::walk::block_end;
 use crate::walk::head_at;
+use terms::TimeRule;
 
 // The k-th message.
 pub fn seek(body: &[u8], kind: u8, rule: TimeRule, n: usize, k: usize) -> Message
     requires { ⌜ (checkBody kind rule (now body) ≡ Checked.Counted n) × (k < n) ⌝ }
     ensures { λ r. ⌜ r ≡ messageIn kind rule (now (body .entry)) k ⌝ }
 {
-    let stamped = stamps(body, kind);
+    let form = form_in(body, kind);
     let mut i: usize = 0;
     let mut at: usize = 4;
     while i < k {
-        let m = head_at(body, at, stamped);
+        let m = head_at(body, at, form);
         at = block_end(m);
         i += 1;
     }
-    head_at(body, at, stamped)
+    head_at(body, at, form)
 }
 
 // The starts and lengths of the n messages, of which there is one at least.
@@ -42,11 +42,11 @@ pub fn fill_lists(
     ensures { λ _. ⌜ now (starts .exit) ≡ filled n (startsOf base (messageIn kind rule (now (body .entry)))) (now (starts .entry)) ⌝ }
     ensures { λ _. ⌜ now (lengths .exit) ≡ filled n (lengthsOf (messageIn kind rule (now (body .entry)))) (now (lengths .entry)) ⌝ }
 {
-    let stamped = stamps(body, kind);
+    let form = form_in(body, kind);
     let mut k: usize = 0;
     let mut at: usize = 4;
     while k < n {
-        let m = head_at(body, at, stamped);
+        let m = head_at(body, at, form);
         starts[k] = (base + m.start) as u32;
         lengths[k] = m.length as u32;
         at = block_end(m);

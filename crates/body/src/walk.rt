@@ -3,49 +3,68 @@ ghost use mathlib.Core.Path.{_≡_};
 ghost use Prim.Native.Nat.{_+_, _^_, _≤_, _<_};
 ghost use lib.ListN.{length};
 ghost use mathlib.Core.Bool.{true};
-ghost use Rattle.body.specs.inner.Walks.{maskOf, limitOf, past, walked};
-ghost use Rattle.body.specs.Walk.{opens, stampLength, headAt, blockEnd, judge, blockAt, stopAt, walk};
+ghost use Rattle.terms.specs.Refusals.{fault};
+ghost use Rattle.body.specs.inner.Walks.{past, walked};
+ghost use Rattle.terms.specs.inner.Masks.{maskOf, limitOf};
+ghost use Rattle.body.specs.Walk.{opens, stampLength, lengthBy, headAt, blockEnd, judge, blockAt, stopAt, walk};
 ghost use Rattle.body.specs.Answers.{checkBody};
+use crate::Form;
 use crate::Message;
 use crate::Opened;
 use crate::Shape;
-use crate::TimeRule;
 use crate::Walked;
 use crate::opening::open_body;
-use crate::time::limit_of;
-use crate::time::mask_of;
+use terms::Refusal;
+use terms::TimeRule;
+use terms::fault;
+use terms::time::limit_of;
+use terms::time::mask_of;
 use units::all_zero;
 use units::read32;
 use units::read64;
 
 // The bytes of a block's time stamp.
-pub fn stamp_length(stamped: bool) -> usize
-    ensures { λ r. ⌜ (r ≡ stampLength stamped) × (r ≤ 8) ⌝ }
+pub fn stamp_length(form: Form) -> usize
+    ensures { λ r. ⌜ (r ≡ stampLength form) × (r ≤ 8) ⌝ }
 {
-    if stamped { 8 } else { 0 }
+    match form {
+        Form::Stamped => 8,
+        Form::Plain => 0,
+    }
+}
+
+// n, by the ID word: its bits 15-0, in either form.
+fn length_by(form: Form, id: u32) -> usize
+    ensures { λ r. ⌜ r ≡ lengthBy form id ⌝ }
+{
+    (id % 0x1_0000) as usize
 }
 
 // What the head of a block at `at` says.
-pub fn head_at(body: &[u8], at: usize, stamped: bool) -> Message
-    requires { ⌜ at + stampLength stamped + 4 ≤ length (now body) ⌝ }
-    ensures { λ r. ⌜ r ≡ headAt stamped (now (body .entry)) at ⌝ }
+pub fn head_at(body: &[u8], at: usize, form: Form) -> Message
+    requires { ⌜ at + stampLength form + 4 ≤ length (now body) ⌝ }
+    ensures { λ r. ⌜ r ≡ headAt form (now (body .entry)) at ⌝ }
 {
-    if stamped {
-        let time = read64(body, at);
-        let id = read32(body, at + 8);
-        return Message {
-            time,
-            id,
-            start: at + 8 + 4,
-            length: (id % 0x1_0000) as usize,
-        };
-    }
-    let id = read32(body, at);
-    Message {
-        time: 0,
-        id,
-        start: at + 4,
-        length: (id % 0x1_0000) as usize,
+    match form {
+        Form::Stamped => {
+            let time = read64(body, at);
+            let id = read32(body, at + 8);
+            Message {
+                time,
+                id,
+                start: at + 8 + 4,
+                length: length_by(form, id),
+            }
+        }
+        Form::Plain => {
+            let id = read32(body, at);
+            Message {
+                time: 0,
+                id,
+                start: at + 4,
+                length: length_by(form, id),
+            }
+        }
     }
 }
 
@@ -86,10 +105,11 @@ fn next_block(body: &[u8], at: usize, shape: Shape, mask: u64, limit: u64) -> us
     requires { ⌜ at ≤ length (now body) ⌝ }
     ensures { λ r. ⌜ r ≡ past (blockAt shape (now (body .entry)) at) ⌝ }
 {
-    if body.len() < at + stamp_length(shape.stamped) + 4 {
+    let form = shape.form;
+    if body.len() < at + stamp_length(form) + 4 {
         return 0;
     }
-    let m = head_at(body, at, shape.stamped);
+    let m = head_at(body, at, form);
     let rule = shape.rule;
     judge_block(body, rule, mask, limit, at, m)
 }
@@ -142,6 +162,13 @@ pub fn walk_body(body: &[u8], kind: u8, rule: TimeRule) -> Walked
     ensures { λ r. ⌜ r ≡ walked (checkBody kind rule (now (body .entry))) ⌝ }
 {
     walk_whole(&body[0..], kind, rule)
+}
+
+// The refusal of a walk that counts nothing: the one place where its numbers become one.
+pub fn walk_refusal(walked: Walked) -> Refusal
+    ensures { λ r. ⌜ r ≡ fault (walked .place) ⌝ }
+{
+    fault(walked.place)
 }
 
 fn walk_whole(body: &[u8], kind: u8, rule: TimeRule) -> Walked

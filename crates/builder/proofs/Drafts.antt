@@ -1,12 +1,12 @@
 -- Laws of the builder's steps: what an answer says of the tests behind it, and what a step leaves in its buffer.
-use mathlib.Core.Path.{_≡_, refl, sym}
+use mathlib.Core.Path.{_≡_, refl, sym, ap}
 use mathlib.Core.List.{List, _++_}
 use mathlib.Core.Bool.{Bool, true, false, not, _&&_, _||_}
 use Prim.Native.Nat.{ℕ, _+_, _*_, _%_, _^_, _≤_, _<_}
 use native.Mathlib.Omega.{arith}
 use lib.ListN.{length, replicate, length-append, length-replicate}
 use lib.Dec.{ltb, leb, eqb}
-use borrow.Author.Tests.{ltb-false, leb-false, eqb-true, eqb-false, not-false, le-ltb, eq-eqb}
+use borrow.Author.Tests.{ltb-false, leb-false, eqb-false, not-false, le-ltb}
 use Rattle.units.specs.Units.{bytesOf, splice}
 use Rattle.units.specs.Choice.{pick}
 use Rattle.units.proofs.Numbers.{length-bytesOf}
@@ -14,20 +14,21 @@ use Rattle.units.proofs.Writes.{chain}
 use Rattle.units.proofs.Choices.{passed, or-false}
 use Rattle.body.specs.Walk.{stampLength, blockSize}
 use Rattle.body.specs.Blocks.{blockBytes}
-use Rattle.body.specs.declared.Refusal.{Refusal}
-use Rattle.builder.specs.Build.{counts, makes, badDraft, denied, openStep, badBlock, badTime, strayTime, grown, draftAdded, addStep, entryOf, closeStep, stepTold, bufAfter}
+use Rattle.terms.specs.declared.Refusal.{Refusal}
+use Rattle.body.specs.declared.Form.{Form}
+use Rattle.builder.specs.Build.{counts, makes, badDraft, openStep, badBlock, badTime, strayTime, grown, draftAdded, addStep, entryOf, closeStep, stepTold, bufAfter}
 use Rattle.builder.specs.declared.Draft.{Draft}
 use Rattle.builder.specs.declared.Step.{Step}
 use Rattle.builder.specs.declared.Step.the-variants.{Done, Denied}
 
 -- ---- tests that passed
 
-few-blocks : (kind : ℕ) (t : Bool) → (counts kind && t) ≡ false → kind ≡ 0x30 → t ≡ false
-few-blocks kind t e k = rw (eq-eqb kind 0x30 k) at e
+few-blocks : (kind : ℕ) (t : Bool) → (counts kind && t) ≡ false → counts kind ≡ true → t ≡ false
+few-blocks kind t e k = rw k at e
 
 -- a state that a step takes
 pub draft-facts : (d : Draft) (room : ℕ) → badDraft d room ≡ false
-    → (d .used ≤ room) × (4 ≤ d .used) × (makes (d .kind) (d .rule) ≡ true) × (d .kind ≡ 0x30 → d .blocks ≤ 65535)
+    → (d .used ≤ room) × (4 ≤ d .used) × (makes (d .kind) (d .rule) ≡ true) × (counts (d .kind) ≡ true → d .blocks ≤ 65535)
 draft-facts d room e =
     let outside = ltb room (d .used) in
     let under = ltb (d .used) 4 in
@@ -42,17 +43,17 @@ draft-facts d room e =
       (λ k. ltb-false 65535 (d .blocks) (few-blocks (d .kind) (ltb 65535 (d .blocks)) (p .1) k)),
     )
 
-pub draft-good : (d : Draft) (room : ℕ) → d .used ≤ room → 4 ≤ d .used → makes (d .kind) (d .rule) ≡ true → (d .kind ≡ 0x30 → d .blocks ≤ 65535)
+pub draft-good : (d : Draft) (room : ℕ) → d .used ≤ room → 4 ≤ d .used → makes (d .kind) (d .rule) ≡ true → (counts (d .kind) ≡ true → d .blocks ≤ 65535)
     → badDraft d room ≡ false
 draft-good d room inside enough made few =
-    simp (le-ltb room (d .used) inside, le-ltb (d .used) 4 enough, made) (go (eqb (d .kind) 0x30) refl)
+    simp (le-ltb room (d .used) inside, le-ltb (d .used) 4 enough, made) (go (counts (d .kind)) refl)
   where
     go : (t : Bool) → counts (d .kind) ≡ t → (t && ltb 65535 (d .blocks)) ≡ false
-    go true t = le-ltb 65535 (d .blocks) (few (eqb-true (d .kind) 0x30 t))
+    go true t = le-ltb 65535 (d .blocks) (few t)
     go false t = refl
 
 -- a block that a step takes
-pub block-facts : (d : Draft) (n : ℕ) → badBlock d n ≡ false → (0 < n) × (n < 2 ^ 16) × (d .kind ≡ 0x30 → d .blocks < 65535)
+pub block-facts : (d : Draft) (n : ℕ) → badBlock d n ≡ false → (0 < n) × (n < 2 ^ 16) × (counts (d .kind) ≡ true → d .blocks < 65535)
 block-facts d n e =
     let many = counts (d .kind) && leb 65535 (d .blocks) in
     let p = or-false (eqb n 0 || ltb 65535 n) many e in
@@ -63,6 +64,9 @@ block-facts d n e =
 
 -- ---- steps that are done
 
+pub denies : (r r′ : Refusal) (d : Draft) → r ≡ r′ → Denied r d ≡ Denied r′ d
+denies r r′ d e = ap (λ (x : Refusal). Denied x d) e
+
 pub not-done : (r : Refusal) (d d′ : Draft) → Denied r d ≡ Done d′ → ⊥
 not-done r d d′ e = let z : _≡_ {A = ℕ} 0 1 = cc in omega arith
 
@@ -71,9 +75,8 @@ pub open-done : (d : Draft) (kind rule room : ℕ) (d′ : Draft) → openStep d
 unfolding openStep
 open-done d kind rule room d′ e =
     let fresh : Draft = record { used = 4; blocks = 0; kind = kind; rule = rule } in
-    let y : Step = pick (ltb room 4) (denied 16 4 d) (Done fresh) in
-    let p = passed (not (makes kind rule)) (denied 17 0 d) y (Done d′) (not-done _ d d′) e in
-    let q = passed (ltb room 4) (denied 16 4 d) (Done fresh) (Done d′) (not-done _ d d′) (p .1) in
+    let p = passed (not (makes kind rule)) _ _ _ (not-done _ d d′) e in
+    let q = passed (ltb room 4) _ _ _ (not-done _ d d′) (p .1) in
     let same : d′ ≡ fresh = cc (q .1) in
     (not-false (makes kind rule) (p .0), ltb-false room 4 (q .0), same)
 
@@ -83,36 +86,31 @@ pub add-done : (d : Draft) (room time n : ℕ) (d′ : Draft) → addStep d room
     × (grown d n ≤ room) × (d′ ≡ draftAdded d n)
 unfolding addStep
 add-done d room time n d′ e =
-    let y₄ : Step = pick (ltb room (grown d n)) (denied 16 (grown d n) d) (Done (draftAdded d n)) in
-    let y₃ : Step = pick (strayTime (d .rule) time) (denied 17 0 d) y₄ in
-    let y₂ : Step = pick (badTime (d .rule) time) (denied 15 0 d) y₃ in
-    let y₁ : Step = pick (badBlock d n) (denied 17 0 d) y₂ in
-    let p = passed (badDraft d room) (denied 1 0 d) y₁ (Done d′) (not-done _ d d′) e in
-    let q = passed (badBlock d n) (denied 17 0 d) y₂ (Done d′) (not-done _ d d′) (p .1) in
-    let r = passed (badTime (d .rule) time) (denied 15 0 d) y₃ (Done d′) (not-done _ d d′) (q .1) in
-    let s = passed (strayTime (d .rule) time) (denied 17 0 d) y₄ (Done d′) (not-done _ d d′) (r .1) in
-    let t = passed (ltb room (grown d n)) (denied 16 (grown d n) d) (Done (draftAdded d n)) (Done d′) (not-done _ d d′) (s .1) in
+    let p = passed (badDraft d room) _ _ _ (not-done _ d d′) e in
+    let q = passed (badBlock d n) _ _ _ (not-done _ d d′) (p .1) in
+    let r = passed (badTime (d .rule) time) _ _ _ (not-done _ d d′) (q .1) in
+    let s = passed (strayTime (d .rule) time) _ _ _ (not-done _ d d′) (r .1) in
+    let t = passed (ltb room (grown d n)) _ _ _ (not-done _ d d′) (s .1) in
     let same : d′ ≡ draftAdded d n = cc (t .1) in
     (p .0, q .0, r .0, s .0, ltb-false room (grown d n) (t .0), same)
 
 pub close-done : (d : Draft) (room : ℕ) (d′ : Draft) → closeStep d room ≡ Done d′ → (badDraft d room ≡ false) × (d .used ≡ 4 → ⊥) × (d′ ≡ d)
 unfolding closeStep
 close-done d room d′ e =
-    let y : Step = pick (eqb (d .used) 4) (denied 15 0 d) (Done d) in
-    let p = passed (badDraft d room) (denied 1 0 d) y (Done d′) (not-done _ d d′) e in
-    let q = passed (eqb (d .used) 4) (denied 15 0 d) (Done d) (Done d′) (not-done _ d d′) (p .1) in
+    let p = passed (badDraft d room) _ _ _ (not-done _ d d′) e in
+    let q = passed (eqb (d .used) 4) _ _ _ (not-done _ d d′) (p .1) in
     let same : d′ ≡ d = cc (q .1) in
     (p .0, eqb-false (d .used) 4 (q .0), same)
 
 -- closing that is not refused is done
-pub close-told : (d : Draft) (len : ℕ) → stepTold (closeStep d len) .number ≡ 0 → closeStep d len ≡ Done d
+pub close-told : (d : Draft) (len : ℕ) → stepTold (closeStep d len) .refusal .number ≡ 0 → closeStep d len ≡ Done d
 unfolding closeStep
-close-told d len e = go (badDraft d len) (eqb (d .used) 4) e
+close-told d len = told (badDraft d len) _ _ (λ e. absurd (omega arith)) (told (eqb (d .used) 4) _ _ (λ e. absurd (omega arith)) (λ e. refl))
   where
-    go : (t u : Bool) → stepTold (pick t (denied 1 0 d) (pick u (denied 15 0 d) (Done d))) .number ≡ 0 → pick t (denied 1 0 d) (pick u (denied 15 0 d) (Done d)) ≡ Done d
-    go true u e = absurd (omega arith)
-    go false true e = absurd (omega arith)
-    go false false e = refl
+    told : (t : Bool) (r : Refusal) (rest : Step) → (r .number ≡ 0 → ⊥) → (stepTold rest .refusal .number ≡ 0 → rest ≡ Done d)
+        → stepTold (pick t (Denied r d) rest) .refusal .number ≡ 0 → pick t (Denied r d) rest ≡ Done d
+    told true r rest other f e = absurd (other e)
+    told false r rest other f e = f e
 
 -- ---- steps that are denied: the state given is handed back
 
@@ -166,19 +164,19 @@ buf-put s d old at vs e = simp e
 -- ---- the bytes of a block
 
 -- four writes one behind the other are one block
-pub block-put : (st : Bool) (time upper : ℕ) (bytes : List ℕ) (head at : ℕ) (b₀ b₁ b₂ b₃ b₄ : List ℕ) → head ≡ at + stampLength st
-    → at + blockSize st (length bytes) ≤ length b₀
-    → b₁ ≡ splice b₀ at (bytesOf (stampLength st) time)
+pub block-put : (form : Form) (time upper : ℕ) (bytes : List ℕ) (head at : ℕ) (b₀ b₁ b₂ b₃ b₄ : List ℕ) → head ≡ at + stampLength form
+    → at + blockSize form (length bytes) ≤ length b₀
+    → b₁ ≡ splice b₀ at (bytesOf (stampLength form) time)
     → b₂ ≡ splice b₁ head (bytesOf 4 (upper * 2 ^ 16 + length bytes))
     → b₃ ≡ splice b₂ (head + 4) bytes
     → b₄ ≡ splice b₃ (head + 4 + length bytes) (replicate (length bytes % 2) 0)
-    → b₄ ≡ splice b₀ at (blockBytes st (entryOf time upper bytes))
+    → b₄ ≡ splice b₀ at (blockBytes form (entryOf time upper bytes))
 unfolding blockBytes
-block-put st time upper bytes head at b₀ b₁ b₂ b₃ b₄ is fits e₁ e₂ e₃ e₄ =
-    let stamp = bytesOf (stampLength st) time in
+block-put form time upper bytes head at b₀ b₁ b₂ b₃ b₄ is fits e₁ e₂ e₃ e₄ =
+    let stamp = bytesOf (stampLength form) time in
     let word = bytesOf 4 (upper * 2 ^ 16 + length bytes) in
     let pad : List ℕ = replicate (length bytes % 2) 0 in
-    let n₁ : length stamp ≡ stampLength st = length-bytesOf (stampLength st) time in
+    let n₁ : length stamp ≡ stampLength form = length-bytesOf (stampLength form) time in
     let n₂ : length word ≡ 4 = length-bytesOf 4 (upper * 2 ^ 16 + length bytes) in
     let n₄ : length pad ≡ length bytes % 2 = length-replicate {A = ℕ} (length bytes % 2) 0 in
     let m₂ : length (stamp ++ word) ≡ length stamp + length word = length-append stamp word in

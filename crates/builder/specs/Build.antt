@@ -6,9 +6,13 @@ use lib.ListN.{length}
 use lib.Dec.{ltb, leb, eqb}
 use Rattle.units.specs.Units.{bytesOf, splice}
 use Rattle.units.specs.Choice.{pick}
-use Rattle.body.specs.Times.{timeOk, ruleOf}
-use Rattle.body.specs.Walk.{refused, blockSize}
+use Rattle.terms.specs.Times.{timeOk, ruleOf}
+use Rattle.body.specs.Walk.{blockSize}
+use Rattle.terms.specs.Refusals.{refused, needing, noRefusal, fault}
+use Rattle.terms.specs.declared.Refusal.{Refusal}
 use Rattle.body.specs.Blocks.{Entry}
+use Rattle.body.specs.declared.Form.{Form}
+use Rattle.body.specs.declared.Form.the-variants.{Stamped, Plain}
 use Rattle.builder.specs.declared.Draft.{Draft}
 use Rattle.builder.specs.declared.Step.{Step}
 use Rattle.builder.specs.declared.Step.the-variants.{Done, Denied}
@@ -35,16 +39,20 @@ badDraft d len =
 abbrev pub freshDraft : Draft
 freshDraft = record { used = 0; blocks = 0; kind = 0; rule = 0 }
 
--- a refused step hands back the state it was given; the place is 0, and 16 has the room needed
-abbrev pub denied : ℕ → ℕ → Draft → Step
-denied number room d = Denied (refused number 0 room) d
+-- the form of blocks whose times are stored, or not
+abbrev pub formBy : Bool → Form
+formBy st = pick st Stamped Plain
 
--- ---- opening: 17, then 16
+-- the form of its blocks
+abbrev pub formOf : Draft → Form
+formOf d = formBy (stamped (d .rule))
+
+-- ---- opening: 17, then 16; the place of every refusal is 0, and a refused step hands back the state it was given
 
 unfoldable pub openStep : Draft → ℕ → ℕ → ℕ → Step
 openStep d kind rule len =
-    pick (not (makes kind rule)) (denied 17 0 d)
-    (pick (ltb len 4) (denied 16 4 d)
+    pick (not (makes kind rule)) (Denied (refused 17 0) d)
+    (pick (ltb len 4) (Denied (needing 4 (refused 16 0)) d)
     (Done (record { used = 4; blocks = 0; kind = kind; rule = rule })))
 
 -- the channel word: counter 0 in 0x30; bit 31 in 0x50 where times are stored
@@ -67,18 +75,18 @@ strayTime rule time = not (stamped rule) && not (eqb time 0)
 
 -- the used count with a block of n bytes more
 unfoldable pub grown : Draft → ℕ → ℕ
-grown d n = d .used + blockSize (stamped (d .rule)) n
+grown d n = d .used + blockSize (formOf d) n
 
 unfoldable pub draftAdded : Draft → ℕ → Draft
 draftAdded d n = record { used = grown d n; blocks = (d .blocks + 1) % 2 ^ 64; kind = d .kind; rule = d .rule }
 
 unfoldable pub addStep : Draft → ℕ → ℕ → ℕ → Step
 addStep d len time n =
-    pick (badDraft d len) (denied 1 0 d)
-    (pick (badBlock d n) (denied 17 0 d)
-    (pick (badTime (d .rule) time) (denied 15 0 d)
-    (pick (strayTime (d .rule) time) (denied 17 0 d)
-    (pick (ltb len (grown d n)) (denied 16 (grown d n) d)
+    pick (badDraft d len) (Denied (refused 1 0) d)
+    (pick (badBlock d n) (Denied (refused 17 0) d)
+    (pick (badTime (d .rule) time) (Denied (fault 0) d)
+    (pick (strayTime (d .rule) time) (Denied (refused 17 0) d)
+    (pick (ltb len (grown d n)) (Denied (needing (grown d n) (refused 16 0)) d)
     (Done (draftAdded d n))))))
 
 -- the block: the time, the ID word made of its upper half and n, and the n bytes
@@ -89,8 +97,8 @@ entryOf time upper bytes = record { time = time; id = upper * 2 ^ 16 + length by
 
 unfoldable pub closeStep : Draft → ℕ → Step
 closeStep d len =
-    pick (badDraft d len) (denied 1 0 d)
-    (pick (eqb (d .used) 4) (denied 15 0 d)
+    pick (badDraft d len) (Denied (refused 1 0) d)
+    (pick (eqb (d .used) 4) (Denied (fault 0) d)
     (Done d))
 
 -- the counter in 0x30, nothing in 0x50
@@ -99,16 +107,14 @@ counterBytes d = pick (counts (d .kind)) (bytesOf 2 (d .blocks)) []
 
 -- ---- after a step
 
--- document 01's number and values of an answer: 0 and zeros where it is done; and the state that is handed on
+-- document 01's number and values of an answer, and the state that is handed on
 pub record StepTold : Type 0 where
-  pub number : ℕ
-  pub place : ℕ
-  pub room : ℕ
+  pub refusal : Refusal
   pub draft : Draft
 
 abbrev pub stepTold : Step → StepTold
-stepTold (Done d) = record { number = 0; place = 0; room = 0; draft = d }
-stepTold (Denied r d) = record { number = r .number; place = r .place; room = r .room; draft = d }
+stepTold (Done d) = record { refusal = noRefusal; draft = d }
+stepTold (Denied r d) = record { refusal = r; draft = d }
 
 -- the buffer: vs written at `at` where the step is done, else untouched
 unfoldable pub bufAfter : Step → List ℕ → ℕ → List ℕ → List ℕ

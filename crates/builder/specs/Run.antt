@@ -4,7 +4,7 @@ use Prim.Native.Nat.{ℕ, _<_, _^_}
 use lib.ListN.{length, take}
 use Rattle.units.specs.Units.{bytesOf}
 use Rattle.body.specs.Blocks.{Entry, blockBytes}
-use Rattle.builder.specs.Build.{stamped, freshDraft, openStep, openWord, addStep, entryOf, closeStep, counterBytes, bufAfter, stepTold, entriesAfter}
+use Rattle.builder.specs.Build.{formOf, freshDraft, openStep, openWord, addStep, entryOf, closeStep, counterBytes, bufAfter, stepTold, entriesAfter}
 use Rattle.builder.specs.declared.Draft.{Draft}
 
 -- the buffer, the state and the blocks added since the last opening, after any number of steps, refused ones too
@@ -15,7 +15,7 @@ pub data Built : List ℕ → Draft → List Entry → Type 0 where
       (stepTold (openStep d kind rule (length buf)) .draft)
       (entriesAfter (openStep d kind rule (length buf)) [] es)
   added : {buf : List ℕ} {d : Draft} {es : List Entry} (time upper : ℕ) (bytes : List ℕ) → time < 2 ^ 64 → upper < 2 ^ 16 → Built buf d es
-      → Built (bufAfter (addStep d (length buf) time (length bytes)) buf (d .used) (blockBytes (stamped (d .rule)) (entryOf time upper bytes)))
+      → Built (bufAfter (addStep d (length buf) time (length bytes)) buf (d .used) (blockBytes (formOf d) (entryOf time upper bytes)))
       (stepTold (addStep d (length buf) time (length bytes)) .draft)
       (entriesAfter (addStep d (length buf) time (length bytes)) (es ++ (entryOf time upper bytes ∷ [])) es)
   closed : {buf : List ℕ} {d : Draft} {es : List Entry} → Built buf d es

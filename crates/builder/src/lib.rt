@@ -6,12 +6,15 @@ ghost use lib.ListN.{length};
 ghost use Rattle.units.specs.Units.{bytesOf, splice};
 ghost use Rattle.body.specs.Blocks.{blockBytes};
 ghost use Rattle.body.specs.Walk.{stampLength, blockSize};
-ghost use Rattle.builder.specs.Build.{stamped, counts, makes, badDraft, freshDraft, denied, openStep, openWord, badBlock, badTime, strayTime, grown, addStep, entryOf, closeStep, counterBytes, bufAfter};
-use body::Refusal;
-use body::refuse;
-use body::time::rule_of;
-use body::time::time_ok;
+ghost use Rattle.builder.specs.Build.{formOf, counts, makes, badDraft, freshDraft, openStep, openWord, badBlock, badTime, strayTime, grown, addStep, entryOf, closeStep, counterBytes, bufAfter};
+use body::Form;
 use body::walk::stamp_length;
+use terms::Refusal;
+use terms::fault;
+use terms::no_room;
+use terms::refuse;
+use terms::time::rule_of;
+use terms::time::time_ok;
 use units::clear_at;
 use units::copy_at;
 use units::put16;
@@ -53,10 +56,10 @@ impl Draft {
         ensures { λ r. ⌜ now (buf .exit) ≡ bufAfter r (now (buf .entry)) 0 (bytesOf 4 (openWord kind rule)) ⌝ }
     {
         if !makes_body(kind, rule) {
-            return deny(17, 0, self);
+            return Step::Denied(refuse(17, 0), self);
         }
         if buf.len() < 4 {
-            return deny(16, 4, self);
+            return Step::Denied(no_room(0, 4), self);
         }
         put32(buf, 0, open_word(kind, rule));
         Step::Done(Draft {
@@ -71,13 +74,13 @@ impl Draft {
     // 1, then 17, then 15 for a time out of form (17 for a time where none is stored), then 16.
     pub fn add(self, buf: &mut [u8], time: u64, upper: u16, bytes: &[u8]) -> Step
         ensures { λ r. ⌜ r ≡ addStep self (length (now (buf .entry))) time (length (now (bytes .entry))) ⌝ }
-        ensures { λ r. ⌜ now (buf .exit) ≡ bufAfter r (now (buf .entry)) (self .used) (blockBytes (stamped (self .rule)) (entryOf time upper (now (bytes .entry)))) ⌝ }
+        ensures { λ r. ⌜ now (buf .exit) ≡ bufAfter r (now (buf .entry)) (self .used) (blockBytes (formOf self) (entryOf time upper (now (bytes .entry)))) ⌝ }
     {
         let step = judge_add(self, buf.len(), time, bytes.len());
         match step {
             Step::Done(_) => {
                 let at = self.used;
-                put_block(buf, at, 0 < self.rule, time, upper, bytes);
+                put_block(buf, at, form_of(self), time, upper, bytes);
                 step
             }
             Step::Denied(_, _) => step,
@@ -90,23 +93,16 @@ impl Draft {
         ensures { λ r. ⌜ now (buf .exit) ≡ bufAfter r (now (buf .entry)) 0 (counterBytes self) ⌝ }
     {
         if bad_draft(self, buf.len()) {
-            return deny(1, 0, self);
+            return Step::Denied(refuse(1, 0), self);
         }
         if self.used == 4 {
-            return deny(15, 0, self);
+            return Step::Denied(fault(0), self);
         }
         if counts_blocks(self.kind) {
             put16(buf, 0, (self.blocks % 0x1_0000) as u16);
         }
         Step::Done(self)
     }
-}
-
-// A refused step: its number, the room needed for 16, and the state it was given.
-fn deny(number: u8, room: usize, draft: Draft) -> Step
-    ensures { λ r. ⌜ r ≡ denied number room draft ⌝ }
-{
-    Step::Denied(refuse(number, 0, room), draft)
 }
 
 // Whether opening takes this type and time rule.
@@ -165,12 +161,23 @@ fn stray_time(rule: u8, time: u64) -> bool
     !(0 < rule) & !(time == 0)
 }
 
+// The form of a body's blocks: times are stored where there is a rule.
+fn form_of(draft: Draft) -> Form
+    ensures { λ r. ⌜ r ≡ formOf draft ⌝ }
+{
+    if 0 < draft.rule {
+        Form::Stamped
+    } else {
+        Form::Plain
+    }
+}
+
 // The used count with a block of n bytes more.
 fn used_after(draft: Draft, n: usize) -> usize
     requires { ⌜ (draft .used < 2 ^ 63) × (n < 2 ^ 16) ⌝ }
     ensures { λ r. ⌜ r ≡ grown draft n ⌝ }
 {
-    draft.used + (stamp_length(0 < draft.rule) + 4 + n + n % 2)
+    draft.used + (stamp_length(form_of(draft)) + 4 + n + n % 2)
 }
 
 // What adding a block of n bytes in a buffer of this length says, and the state after it.
@@ -179,20 +186,20 @@ fn judge_add(draft: Draft, len: usize, time: u64, n: usize) -> Step
     ensures { λ r. ⌜ r ≡ addStep draft len time n ⌝ }
 {
     if bad_draft(draft, len) {
-        return deny(1, 0, draft);
+        return Step::Denied(refuse(1, 0), draft);
     }
     if bad_block(draft, n) {
-        return deny(17, 0, draft);
+        return Step::Denied(refuse(17, 0), draft);
     }
     if bad_time(draft.rule, time) {
-        return deny(15, 0, draft);
+        return Step::Denied(fault(0), draft);
     }
     if stray_time(draft.rule, time) {
-        return deny(17, 0, draft);
+        return Step::Denied(refuse(17, 0), draft);
     }
     let used = used_after(draft, n);
     if len < used {
-        return deny(16, used, draft);
+        return Step::Denied(no_room(0, used), draft);
     }
     Step::Done(Draft {
         used,
@@ -203,23 +210,24 @@ fn judge_add(draft: Draft, len: usize, time: u64, n: usize) -> Step
 }
 
 // Writes the time stamp of a block, if it has one.
-fn put_stamp(buf: &mut [u8], at: usize, stamped: bool, time: u64)
-    requires { ⌜ at + stampLength stamped ≤ length (now buf) ⌝ }
-    ensures { λ _. ⌜ now (buf .exit) ≡ splice (now (buf .entry)) at (bytesOf (stampLength stamped) time) ⌝ }
+fn put_stamp(buf: &mut [u8], at: usize, form: Form, time: u64)
+    requires { ⌜ at + stampLength form ≤ length (now buf) ⌝ }
+    ensures { λ _. ⌜ now (buf .exit) ≡ splice (now (buf .entry)) at (bytesOf (stampLength form) time) ⌝ }
 {
-    if stamped {
-        put64(buf, at, time);
+    match form {
+        Form::Stamped => put64(buf, at, time),
+        Form::Plain => (),
     }
 }
 
 // Writes a block.
-fn put_block(buf: &mut [u8], at: usize, stamped: bool, time: u64, upper: u16, bytes: &[u8])
-    requires { ⌜ (length (now bytes) < 2 ^ 16) × (at + blockSize stamped (length (now bytes)) ≤ length (now buf)) ⌝ }
-    ensures { λ _. ⌜ now (buf .exit) ≡ splice (now (buf .entry)) at (blockBytes stamped (entryOf time upper (now (bytes .entry)))) ⌝ }
+fn put_block(buf: &mut [u8], at: usize, form: Form, time: u64, upper: u16, bytes: &[u8])
+    requires { ⌜ (length (now bytes) < 2 ^ 16) × (at + blockSize form (length (now bytes)) ≤ length (now buf)) ⌝ }
+    ensures { λ _. ⌜ now (buf .exit) ≡ splice (now (buf .entry)) at (blockBytes form (entryOf time upper (now (bytes .entry)))) ⌝ }
 {
-    let head = at + stamp_length(stamped);
+    let head = at + stamp_length(form);
     let n = bytes.len();
-    put_stamp(buf, at, stamped, time);
+    put_stamp(buf, at, form, time);
     put32(buf, head, (upper as u32) * 0x1_0000 + (n as u32));
     copy_at(buf, head + 4, bytes);
     clear_at(buf, head + 4 + n, n % 2);

@@ -1,28 +1,39 @@
 -- What the writer and the builder's steps say of words, from what they say of narrower numbers.
 use mathlib.Core.Path.{_≡_, refl, sym, ap, _∙_}
-use mathlib.Core.List.{List}
+use mathlib.Core.List.{List, _∷_}
 use mathlib.Core.Bool.{Bool, true, false, not, _&&_, _||_}
 use mathlib.Core.Logic.{_⊎_, inl, inr}
-use Prim.Native.Nat.{ℕ, _^_, _<_, _≤_}
+use Prim.Native.Nat.{ℕ, _+_, _^_, _<_, _≤_}
 use native.Mathlib.Omega.{arith}
+use lib.ListN.{length, drop, getD, drop-of-length-le}
+use lib.Seq.{drop-cons}
 use lib.Dec.{ltb, eqb}
 use borrow.Author.Tests.{ltb-true, ltb-false, lt-ltb, le-ltb, ne-eqb}
 use Rattle.units.specs.Choice.{pick}
 use Rattle.units.proofs.Choices.{or-true, or-false, and-true}
-use Rattle.body.specs.Walk.{refused}
-use Rattle.body.specs.declared.Refusal.{Refusal}
-use Rattle.builder.specs.Build.{makes, stamped, badDraft, freshDraft, denied, openStep, addStep, closeStep, bufAfter, stepTold}
+use Rattle.terms.specs.Refusals.{refused, needing}
+use Rattle.terms.specs.declared.Refusal.{Refusal}
+use Rattle.builder.specs.Build.{counts, makes, stamped, badDraft, freshDraft, openStep, addStep, closeStep, bufAfter, stepTold}
 use Rattle.builder.proofs.Drafts.{not-done, buf-kept}
 use Rattle.builder.specs.declared.Draft.{Draft}
 use Rattle.builder.specs.declared.Step.{Step}
 use Rattle.builder.specs.declared.Step.the-variants.{Done, Denied}
+use Rattle.frame.specs.Contents.{contents}
 use Rattle.frame.specs.declared.Fields.{Fields}
 use Rattle.packet_bytes.specs.Bytes.{packetBytes}
 use Rattle.packet.specs.Write.{writePacket, outAfter}
 use Rattle.packet.specs.declared.PacketWrite.{PacketWrite}
 use Rattle.packet.specs.declared.PacketWrite.the-variants.{Unwritten}
-use Rattle.ch11.specs.Words.{draftWords}
-use Rattle.ch11.specs.Given.{fieldsFit, writeGiven, addGiven}
+use Rattle.ch11.specs.Words.{refusalSize, stateWords, draftWords}
+use Rattle.ch11.specs.Given.{fieldsFit, writeGiven, draftOf, addGiven}
+
+-- the words behind a struct's refusal are the state in them
+pub state-kept : (ws : List ℕ) → length ws ≡ refusalSize + 4 → drop refusalSize ws ≡ stateWords (draftOf ws)
+state-kept ws l =
+    drop-cons ws refusalSize 0 (omega arith)
+    ∙ rw (drop-cons ws (refusalSize + 1) 0 (omega arith), drop-cons ws (refusalSize + 2) 0 (omega arith), drop-cons ws (refusalSize + 3) 0 (omega arith))
+    (ap (λ (rest : List ℕ). getD ws refusalSize 0 ∷ getD ws (refusalSize + 1) 0 ∷ getD ws (refusalSize + 2) 0 ∷ getD ws (refusalSize + 3) 0 ∷ rest)
+    (drop-of-length-le ws {i = refusalSize + 4} (omega arith)))
 
 -- ---- the writer: a field that can hold its value
 
@@ -35,17 +46,17 @@ fits f e =
     let s = and-true (ltb (f .channel) (2 ^ 16)) (ltb (f .version) 256) (r .0) in
     (ltb-true (f .channel) (2 ^ 16) (s .0), ltb-true (f .version) 256 (s .1), ltb-true (f .sequence) 256 (r .1), ltb-true (f .flags) 256 (q .1), ltb-true (f .kind) 256 (p .1))
 
-pub unfit : (f : Fields) (body : List ℕ) (room : ℕ) (b : Bool) (r : Refusal) → b ≡ fieldsFit f → not b ≡ true → r ≡ refused 17 0 0 → Unwritten r ≡ writeGiven f body room
+pub unfit : (f : Fields) (body : List ℕ) (room : ℕ) (b : Bool) (r : Refusal) → b ≡ fieldsFit f → not b ≡ true → r ≡ refused 17 0 → Unwritten r ≡ writeGiven (contents f body) room
 unfolding writeGiven
 unfit f body room b r is e q = let wide : not (fieldsFit f) ≡ true = ap not (sym is) ∙ e in rw (q, wide)
 
-pub fit-as : (g f : Fields) (body : List ℕ) (room : ℕ) (b : Bool) (x : PacketWrite) (old new : List ℕ) → b ≡ fieldsFit f → not b ≡ false → g ≡ f → x ≡ writePacket g body room
-    → new ≡ outAfter x old (packetBytes g body) → (x ≡ writeGiven f body room) × (new ≡ outAfter x old (packetBytes f body))
+pub fit-as : (g f : Fields) (body : List ℕ) (room : ℕ) (b : Bool) (x : PacketWrite) (old new : List ℕ) → b ≡ fieldsFit f → not b ≡ false → g ≡ f → x ≡ writePacket (contents g body) room
+    → new ≡ outAfter x old (packetBytes (contents g body)) → (x ≡ writeGiven (contents f body) room) × (new ≡ outAfter x old (packetBytes (contents f body)))
 unfolding writeGiven
 fit-as g f body room b x old new is e q says out =
     let narrow : not (fieldsFit f) ≡ false = ap not (sym is) ∙ e in
-    let said : x ≡ writePacket f body room = says ∙ ap (λ (y : Fields). writePacket y body room) q in
-    (rw (narrow) said, out ∙ ap (λ (y : Fields). outAfter x old (packetBytes y body)) q)
+    let said : x ≡ writePacket (contents f body) room = says ∙ ap (λ (y : Fields). writePacket (contents y body) room) q in
+    (rw (narrow) said, out ∙ ap (λ (y : Fields). outAfter x old (packetBytes (contents y body))) q)
 
 -- ---- the builder: a type or a time rule over 255
 
@@ -68,7 +79,7 @@ over-makes kind rule e = go (or-true (ltb 255 kind) (ltb 255 rule) e)
         let a : ltb rule 5 ≡ false = le-ltb rule 5 (omega arith) in
         ends ((eqb kind 0x30 && stamped rule) || eqb kind 0x50) (ltb rule 5) a
 
-pub over-open : (d : Draft) (kind rule len : ℕ) → (ltb 255 kind || ltb 255 rule) ≡ true → openStep d kind rule len ≡ denied 17 0 d
+pub over-open : (d : Draft) (kind rule len : ℕ) → (ltb 255 kind || ltb 255 rule) ≡ true → openStep d kind rule len ≡ Denied (refused 17 0) d
 unfolding openStep
 over-open d kind rule len e = rw (over-makes kind rule e)
 
@@ -77,13 +88,13 @@ one-of true b c e = refl
 one-of false b c e = rw (e)
 
 pub over-draft : (d : Draft) (len : ℕ) → (ltb 255 (d .kind) || ltb 255 (d .rule)) ≡ true → badDraft d len ≡ true
-over-draft d len e = one-of (ltb len (d .used) || ltb (d .used) 4) (not (makes (d .kind) (d .rule))) (eqb (d .kind) 0x30 && ltb 65535 (d .blocks)) (ap not (over-makes (d .kind) (d .rule) e))
+over-draft d len e = one-of (ltb len (d .used) || ltb (d .used) 4) (not (makes (d .kind) (d .rule))) (counts (d .kind) && ltb 65535 (d .blocks)) (ap not (over-makes (d .kind) (d .rule) e))
 
-pub over-add : (d : Draft) (len time upper n : ℕ) → (ltb 255 (d .kind) || ltb 255 (d .rule)) ≡ true → addGiven d len time upper n ≡ denied 1 0 d
+pub over-add : (d : Draft) (len time upper n : ℕ) → (ltb 255 (d .kind) || ltb 255 (d .rule)) ≡ true → addGiven d len time upper n ≡ Denied (refused 1 0) d
 unfolding addGiven
 over-add d len time upper n e = rw (over-draft d len e)
 
-pub over-close : (d : Draft) (len : ℕ) → (ltb 255 (d .kind) || ltb 255 (d .rule)) ≡ true → closeStep d len ≡ denied 1 0 d
+pub over-close : (d : Draft) (len : ℕ) → (ltb 255 (d .kind) || ltb 255 (d .rule)) ≡ true → closeStep d len ≡ Denied (refused 1 0) d
 unfolding closeStep
 over-close d len e = rw (over-draft d len e)
 
@@ -100,8 +111,8 @@ open-any d kind rule len d′ e = go (makes kind rule) (ltb len 4) e
     opened : Step
     opened = Done (record { used = 4; blocks = 0; kind = kind; rule = rule })
 
-    go : (m t : Bool) → pick (not m) (denied 17 0 freshDraft) (pick t (denied 16 4 freshDraft) opened) ≡ Done d′
-        → pick (not m) (denied 17 0 d) (pick t (denied 16 4 d) opened) ≡ Done d′
+    go : (m t : Bool) → pick (not m) (Denied (refused 17 0) freshDraft) (pick t (Denied (needing 4 (refused 16 0)) freshDraft) opened) ≡ Done d′
+        → pick (not m) (Denied (refused 17 0) d) (pick t (Denied (needing 4 (refused 16 0)) d) opened) ≡ Done d′
     go true true q = absurd (not-done _ freshDraft d′ q)
     go true false q = q
     go false t q = absurd (not-done _ freshDraft d′ q)
@@ -113,11 +124,11 @@ open-back d kind rule len f d′ e = go (makes kind rule) (ltb len 4) e
     opened : Draft
     opened = record { used = 4; blocks = 0; kind = kind; rule = rule }
 
-    go : (m t : Bool) → pick (not m) (denied 17 0 freshDraft) (pick t (denied 16 4 freshDraft) (Done opened)) ≡ Denied f d′
-        → pick (not m) (denied 17 0 d) (pick t (denied 16 4 d) (Done opened)) ≡ Denied f d
-    go true true q = let same : refused 16 0 4 ≡ f = cc q in ap (λ (r : Refusal). Denied r d) same
+    go : (m t : Bool) → pick (not m) (Denied (refused 17 0) freshDraft) (pick t (Denied (needing 4 (refused 16 0)) freshDraft) (Done opened)) ≡ Denied f d′
+        → pick (not m) (Denied (refused 17 0) d) (pick t (Denied (needing 4 (refused 16 0)) d) (Done opened)) ≡ Denied f d
+    go true true q = let same : needing 4 (refused 16 0) ≡ f = cc q in ap (λ (r : Refusal). Denied r d) same
     go true false q = absurd (not-done f d′ opened (sym q))
-    go false t q = let same : refused 17 0 0 ≡ f = cc q in ap (λ (r : Refusal). Denied r d) same
+    go false t q = let same : refused 17 0 ≡ f = cc q in ap (λ (r : Refusal). Denied r d) same
 
 -- ---- adding: the upper half
 
@@ -127,7 +138,7 @@ twice false x y = refl
 
 pub upper-fits : (d : Draft) (len time upper n : ℕ) → upper ≤ 65535 → addStep d len time n ≡ addGiven d len time upper n
 unfolding addGiven addStep
-upper-fits d len time upper n e = rw (le-ltb 65535 upper e) (twice (badDraft d len) (denied 1 0 d) _)
+upper-fits d len time upper n e = rw (le-ltb 65535 upper e) (twice (badDraft d len) (Denied (refused 1 0) d) _)
 
 -- a block of no bytes is refused as an upper half that does not fit is
 pub upper-over : (d : Draft) (len time upper n : ℕ) → 65535 < upper → addStep d len time 0 ≡ addGiven d len time upper n
@@ -139,7 +150,7 @@ pub upper-kept : (d : Draft) (len time upper n : ℕ) (old : List ℕ) (at : ℕ
 unfolding addGiven bufAfter
 upper-kept d len time upper n old at vs e = rw (lt-ltb 65535 upper e) (go (badDraft d len))
   where
-    go : (t : Bool) → bufAfter (pick t (denied 1 0 d) (denied 17 0 d)) old at vs ≡ old
+    go : (t : Bool) → bufAfter (pick t (Denied (refused 1 0) d) (Denied (refused 17 0) d)) old at vs ≡ old
     go true = refl
     go false = refl
 

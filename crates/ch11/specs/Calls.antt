@@ -6,7 +6,8 @@ use Prim.Native.Nat.{ℕ}
 use lib.ListN.{length, getD}
 use Rattle.units.specs.Units.{bytesOf}
 use Rattle.body.specs.Blocks.{blockBytes}
-use Rattle.builder.specs.Build.{stamped, openStep, openWord, entryOf, closeStep, counterBytes, bufAfter, stepTold}
+use Rattle.builder.specs.Build.{formOf, openStep, openWord, entryOf, closeStep, counterBytes, bufAfter, stepTold}
+use Rattle.frame.specs.Contents.{contents}
 use Rattle.packet_bytes.specs.Bytes.{packetBytes}
 use Rattle.packet.specs.Read.{window, readPacket, packetTold}
 use Rattle.packet.specs.Messages.{listPacket, listAfter, listTold, starts, lengths, messagePacket, messageTold}
@@ -45,8 +46,8 @@ ReadRecording buf start end = Holds (recordingWords (readRecording buf start end
 -- ch11_write_packet(fields, body, out, written): the output at entry; then the number, the struct and the output at exit
 abbrev pub WritePacket : List ℕ → List ℕ → List ℕ → ℕ → List ℕ → List ℕ → Type 0
 WritePacket fields body out₀ r written out₁ =
-    Holds (writtenWords (writeTold (writeGiven (fieldsOf fields) body (length out₀)))) r written
-    × (out₁ ≡ outAfter (writeGiven (fieldsOf fields) body (length out₀)) out₀ (packetBytes (fieldsOf fields) body))
+    Holds (writtenWords (writeTold (writeGiven (contents (fieldsOf fields) body) (length out₀)))) r written
+    × (out₁ ≡ outAfter (writeGiven (contents (fieldsOf fields) body) (length out₀)) out₀ (packetBytes (contents (fieldsOf fields) body)))
 
 -- ---- the builder: the state and the buffer at entry; then the number, the state and the buffer at exit
 
@@ -61,7 +62,7 @@ abbrev pub Add : List ℕ → List ℕ → ℕ → ℕ → List ℕ → ℕ → 
 Add draft₀ buf₀ time upper bytes r draft₁ buf₁ =
     Holds (draftWords (stepTold (addGiven (draftOf draft₀) (length buf₀) time upper (length bytes)))) r draft₁
     × (buf₁ ≡ bufAfter (addGiven (draftOf draft₀) (length buf₀) time upper (length bytes)) buf₀ (draftOf draft₀ .used)
-    (blockBytes (stamped (draftOf draft₀ .rule)) (entryOf time upper bytes)))
+    (blockBytes (formOf (draftOf draft₀)) (entryOf time upper bytes)))
 
 -- ch11_close(draft, buf)
 abbrev pub Close : List ℕ → List ℕ → ℕ → List ℕ → List ℕ → Type 0

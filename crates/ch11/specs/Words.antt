@@ -1,8 +1,11 @@
 -- The structs of include/ch11.h as 64-bit words, in the header's order: document 01's number and values of each answer.
 use mathlib.Core.List.{List, [], _∷_, _++_}
 use Prim.Native.Nat.{ℕ}
-use Rattle.body.specs.declared.Refusal.{Refusal}
+use lib.ListN.{length}
+use Rattle.terms.specs.declared.Refusal.{Refusal}
+use Rattle.terms.specs.Refusals.{noRefusal}
 use Rattle.builder.specs.Build.{StepTold}
+use Rattle.builder.specs.declared.Draft.{Draft}
 use Rattle.frame.specs.declared.Fields.{Fields}
 use Rattle.packet.specs.Read.{PacketTold}
 use Rattle.packet.specs.Messages.{ListTold, MessageTold}
@@ -12,9 +15,13 @@ use Rattle.recording.specs.declared.Recording.{Recording}
 
 -- ---- structs inside others
 
--- struct ch11_refusal
+-- struct ch11_refusal, with which every other struct of a result begins
 abbrev pub refusalWords : Refusal → List ℕ
 refusalWords r = r .number ∷ r .place ∷ r .room ∷ []
+
+-- its number of words
+abbrev pub refusalSize : ℕ
+refusalSize = length (refusalWords noRefusal)
 
 -- struct ch11_fields
 abbrev pub fieldsWords : Fields → List ℕ
@@ -54,6 +61,10 @@ recordingWords r = refusalWords (r .refusal) ++ (r .accepted ∷ r .reached ∷ 
 unfoldable pub writtenWords : WriteTold → List ℕ
 writtenWords t = refusalWords (t .refusal) ++ (t .length ∷ [])
 
+-- the state in struct ch11_draft
+abbrev pub stateWords : Draft → List ℕ
+stateWords d = d .used ∷ d .blocks ∷ d .kind ∷ d .rule ∷ []
+
 -- struct ch11_draft
 unfoldable pub draftWords : StepTold → List ℕ
-draftWords t = t .number ∷ t .place ∷ t .room ∷ t .draft .used ∷ t .draft .blocks ∷ t .draft .kind ∷ t .draft .rule ∷ []
+draftWords t = refusalWords (t .refusal) ++ stateWords (t .draft)

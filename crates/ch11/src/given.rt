@@ -1,33 +1,39 @@
 // The writer and the builder's steps on what they are given as words.
 ghost use mathlib.Core.Path.{_≡_};
 ghost use mathlib.Core.Bool.{true, false, _||_};
-ghost use lib.ListN.{length, getD};
+ghost use lib.ListN.{length};
 ghost use lib.Dec.{ltb};
 ghost use Rattle.units.specs.Units.{bytesOf};
 ghost use Rattle.body.specs.Blocks.{blockBytes};
-ghost use Rattle.builder.specs.Build.{stamped, openStep, openWord, entryOf, closeStep, counterBytes, bufAfter, stepTold};
+ghost use Rattle.builder.specs.Build.{formOf, openStep, openWord, entryOf, closeStep, counterBytes, bufAfter, stepTold};
 ghost use Rattle.builder.specs.declared.Step.the-variants.{Denied};
+ghost use Rattle.frame.specs.Contents.{contents};
 ghost use Rattle.packet_bytes.specs.Bytes.{packetBytes};
 ghost use Rattle.packet.specs.Write.{outAfter};
 ghost use Rattle.ch11.specs.Words.{draftWords};
 ghost use Rattle.ch11.specs.Given.{fieldsOf, fieldsFit, writeGiven, draftOf, addGiven};
-use body::Refusal;
-use body::refuse;
+use crate::words::DRAFT;
+use crate::words::FIELDS;
+use crate::words::REFUSAL;
+use crate::words::put_refusal;
+use crate::words::step_words;
 use builder::Draft;
 use builder::Step;
 use frame::Fields;
 use packet::PacketWrite;
 use packet::write_packet;
+use terms::Refusal;
+use terms::refuse;
 
 // Whether each field can hold its word.
-fn fields_fit(ws: &[u64; 7]) -> bool
+fn fields_fit(ws: &[u64; FIELDS]) -> bool
     ensures { λ r. ⌜ r ≡ fieldsFit (fieldsOf (now (ws .entry))) ⌝ }
 {
     (ws[0] < 65536) & (ws[1] < 256) & (ws[2] < 256) & (ws[3] < 256) & (ws[4] < 256)
 }
 
 // The fields in these words.
-fn fields_of(ws: &[u64; 7]) -> Fields
+fn fields_of(ws: &[u64; FIELDS]) -> Fields
     requires { ⌜ fieldsFit (fieldsOf (now ws)) ≡ true ⌝ }
     ensures { λ r. ⌜ r ≡ fieldsOf (now (ws .entry)) ⌝ }
 {
@@ -43,55 +49,23 @@ fn fields_of(ws: &[u64; 7]) -> Fields
 }
 
 // Writes a packet; first 17 where a field can't hold its word.
-pub fn write_given(ws: &[u64; 7], body: &[u8], out: &mut [u8]) -> PacketWrite
-    ensures { λ r. ⌜ r ≡ writeGiven (fieldsOf (now (ws .entry))) (now (body .entry)) (length (now (out .entry))) ⌝ }
-    ensures { λ r. ⌜ now (out .exit) ≡ outAfter r (now (out .entry)) (packetBytes (fieldsOf (now (ws .entry))) (now (body .entry))) ⌝ }
+pub fn write_given(ws: &[u64; FIELDS], body: &[u8], out: &mut [u8]) -> PacketWrite
+    ensures { λ r. ⌜ r ≡ writeGiven (contents (fieldsOf (now (ws .entry))) (now (body .entry))) (length (now (out .entry))) ⌝ }
+    ensures { λ r. ⌜ now (out .exit) ≡ outAfter r (now (out .entry)) (packetBytes (contents (fieldsOf (now (ws .entry))) (now (body .entry)))) ⌝ }
 {
     if !fields_fit(ws) {
-        return PacketWrite::Unwritten(refuse(17, 0, 0));
+        return PacketWrite::Unwritten(refuse(17, 0));
     }
     write_packet(fields_of(ws), body, out)
 }
 
-// The words of a step.
-fn step_words(step: Step) -> [u64; 7]
-    ensures { λ r. ⌜ r ≡ draftWords (stepTold step) ⌝ }
-{
-    match step {
-        Step::Done(d) => [
-            0,
-            0,
-            0,
-            d.used as u64,
-            d.blocks,
-            d.kind as u64,
-            d.rule as u64,
-        ],
-        Step::Denied(f, d) => [
-            f.number as u64,
-            f.place as u64,
-            f.room as u64,
-            d.used as u64,
-            d.blocks,
-            d.kind as u64,
-            d.rule as u64,
-        ],
-    }
-}
-
 // The words of a refused step: this refusal, and the state as it was given.
-fn denied_words(f: Refusal, ws: [u64; 7]) -> [u64; 7]
+fn denied_words(f: Refusal, ws: [u64; DRAFT]) -> [u64; DRAFT]
     ensures { λ r. ⌜ r ≡ draftWords (stepTold (Denied f (draftOf ws))) ⌝ }
 {
-    [
-        f.number as u64,
-        f.place as u64,
-        f.room as u64,
-        ws[3],
-        ws[4],
-        ws[5],
-        ws[6],
-    ]
+    let mut words = ws;
+    put_refusal(&mut words, f);
+    words
 }
 
 // Whether a type or a time rule is over 255, and so none that opening takes.
@@ -102,25 +76,25 @@ fn over_byte(kind: u64, rule: u64) -> bool
 }
 
 // The state in these words.
-fn draft_of(ws: [u64; 7]) -> Draft
-    requires { ⌜ (ltb 255 (getD ws 5 0) || ltb 255 (getD ws 6 0)) ≡ false ⌝ }
+fn draft_of(ws: [u64; DRAFT]) -> Draft
+    requires { ⌜ (ltb 255 (draftOf ws .kind) || ltb 255 (draftOf ws .rule)) ≡ false ⌝ }
     ensures { λ r. ⌜ r ≡ draftOf ws ⌝ }
 {
     Draft {
-        used: ws[3] as usize,
-        blocks: ws[4],
-        kind: ws[5] as u8,
-        rule: ws[6] as u8,
+        used: ws[REFUSAL] as usize,
+        blocks: ws[REFUSAL + 1],
+        kind: ws[REFUSAL + 2] as u8,
+        rule: ws[REFUSAL + 3] as u8,
     }
 }
 
 // Opens a body. The state in these words has no say, and is handed back on a refusal.
-pub fn open_given(ws: [u64; 7], buf: &mut [u8], kind: u64, rule: u64) -> [u64; 7]
+pub fn open_given(ws: [u64; DRAFT], buf: &mut [u8], kind: u64, rule: u64) -> [u64; DRAFT]
     ensures { λ r. ⌜ r ≡ draftWords (stepTold (openStep (draftOf ws) kind rule (length (now (buf .entry))))) ⌝ }
     ensures { λ r. ⌜ now (buf .exit) ≡ bufAfter (openStep (draftOf ws) kind rule (length (now (buf .entry)))) (now (buf .entry)) 0 (bytesOf 4 (openWord kind rule)) ⌝ }
 {
     if over_byte(kind, rule) {
-        return denied_words(refuse(17, 0, 0), ws);
+        return denied_words(refuse(17, 0), ws);
     }
     let step = Draft::fresh().open(buf, kind as u8, rule as u8);
     match step {
@@ -130,12 +104,18 @@ pub fn open_given(ws: [u64; 7], buf: &mut [u8], kind: u64, rule: u64) -> [u64; 7
 }
 
 // Adds a block; an upper half that does not fit is refused as a block of no bytes is: 1, then 17.
-pub fn add_given(ws: [u64; 7], buf: &mut [u8], time: u64, upper: u64, bytes: &[u8]) -> [u64; 7]
+pub fn add_given(
+    ws: [u64; DRAFT],
+    buf: &mut [u8],
+    time: u64,
+    upper: u64,
+    bytes: &[u8],
+) -> [u64; DRAFT]
     ensures { λ r. ⌜ r ≡ draftWords (stepTold (addGiven (draftOf ws) (length (now (buf .entry))) time upper (length (now (bytes .entry))))) ⌝ }
-    ensures { λ r. ⌜ now (buf .exit) ≡ bufAfter (addGiven (draftOf ws) (length (now (buf .entry))) time upper (length (now (bytes .entry)))) (now (buf .entry)) (draftOf ws .used) (blockBytes (stamped (draftOf ws .rule)) (entryOf time upper (now (bytes .entry)))) ⌝ }
+    ensures { λ r. ⌜ now (buf .exit) ≡ bufAfter (addGiven (draftOf ws) (length (now (buf .entry))) time upper (length (now (bytes .entry)))) (now (buf .entry)) (draftOf ws .used) (blockBytes (formOf (draftOf ws)) (entryOf time upper (now (bytes .entry)))) ⌝ }
 {
-    if over_byte(ws[5], ws[6]) {
-        return denied_words(refuse(1, 0, 0), ws);
+    if over_byte(ws[REFUSAL + 2], ws[REFUSAL + 3]) {
+        return denied_words(refuse(1, 0), ws);
     }
     let draft = draft_of(ws);
     if 65535 < upper {
@@ -145,12 +125,12 @@ pub fn add_given(ws: [u64; 7], buf: &mut [u8], time: u64, upper: u64, bytes: &[u
 }
 
 // Closes a body.
-pub fn close_given(ws: [u64; 7], buf: &mut [u8]) -> [u64; 7]
+pub fn close_given(ws: [u64; DRAFT], buf: &mut [u8]) -> [u64; DRAFT]
     ensures { λ r. ⌜ r ≡ draftWords (stepTold (closeStep (draftOf ws) (length (now (buf .entry))))) ⌝ }
     ensures { λ r. ⌜ now (buf .exit) ≡ bufAfter (closeStep (draftOf ws) (length (now (buf .entry)))) (now (buf .entry)) 0 (counterBytes (draftOf ws)) ⌝ }
 {
-    if over_byte(ws[5], ws[6]) {
-        return denied_words(refuse(1, 0, 0), ws);
+    if over_byte(ws[REFUSAL + 2], ws[REFUSAL + 3]) {
+        return denied_words(refuse(1, 0), ws);
     }
     step_words(draft_of(ws).close(buf))
 }

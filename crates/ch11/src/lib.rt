@@ -14,6 +14,13 @@ use given::add_given;
 use given::close_given;
 use given::open_given;
 use given::write_given;
+use words::DRAFT;
+use words::FIELDS;
+use words::LIST;
+use words::MESSAGE;
+use words::PACKET;
+use words::RECORDING;
+use words::WRITTEN;
 use words::list_words;
 use words::message_words;
 use words::packet_words;
@@ -27,7 +34,7 @@ pub extern "C" fn ch11_read_packet(
     buf: &[u8],
     start: usize,
     end: usize,
-    packet: &mut [u64; 24],
+    packet: &mut [u64; PACKET],
 ) -> u64
     ensures { λ r. ⌜ ReadPacket (now (buf .entry)) start end r (now (packet .exit)) ⌝ }
 {
@@ -51,7 +58,7 @@ pub extern "C" fn ch11_list_messages(
     end: usize,
     starts: &mut [u32],
     lengths: &mut [u32],
-    list: &mut [u64; 4],
+    list: &mut [u64; LIST],
 ) -> u64
     ensures { λ r. ⌜ ListMessages (now (buf .entry)) start end (now (starts .entry)) (now (lengths .entry)) r (now (list .exit)) (now (starts .exit)) (now (lengths .exit)) ⌝ }
 {
@@ -66,7 +73,7 @@ pub extern "C" fn ch11_message(
     start: usize,
     end: usize,
     number: usize,
-    found: &mut [u64; 7],
+    found: &mut [u64; MESSAGE],
 ) -> u64
     ensures { λ r. ⌜ GiveMessage (now (buf .entry)) start end number r (now (found .exit)) ⌝ }
 {
@@ -80,7 +87,7 @@ pub extern "C" fn ch11_read_recording(
     buf: &[u8],
     start: usize,
     end: usize,
-    recording: &mut [u64; 5],
+    recording: &mut [u64; RECORDING],
 ) -> u64
     ensures { λ r. ⌜ ReadRecording (now (buf .entry)) start end r (now (recording .exit)) ⌝ }
 {
@@ -91,10 +98,10 @@ pub extern "C" fn ch11_read_recording(
 // Writes a packet: packet::write_packet; 17 also for a value that its field can't hold.
 #[no_mangle]
 pub extern "C" fn ch11_write_packet(
-    fields: &[u64; 7],
+    fields: &[u64; FIELDS],
     body: &[u8],
     out: &mut [u8],
-    written: &mut [u64; 4],
+    written: &mut [u64; WRITTEN],
 ) -> u64
     ensures { λ r. ⌜ WritePacket (now (fields .entry)) (now (body .entry)) (now (out .entry)) r (now (written .exit)) (now (out .exit)) ⌝ }
 {
@@ -104,7 +111,7 @@ pub extern "C" fn ch11_write_packet(
 
 // Opens a body: builder's open.
 #[no_mangle]
-pub extern "C" fn ch11_open(draft: &mut [u64; 7], buf: &mut [u8], kind: u64, rule: u64) -> u64
+pub extern "C" fn ch11_open(draft: &mut [u64; DRAFT], buf: &mut [u8], kind: u64, rule: u64) -> u64
     ensures { λ r. ⌜ Open (now (draft .entry)) (now (buf .entry)) kind rule r (now (draft .exit)) (now (buf .exit)) ⌝ }
 {
     *draft = open_given(*draft, buf, kind, rule);
@@ -114,7 +121,7 @@ pub extern "C" fn ch11_open(draft: &mut [u64; 7], buf: &mut [u8], kind: u64, rul
 // Adds a block: builder's add; 17 also for an upper half of 2^16 or more.
 #[no_mangle]
 pub extern "C" fn ch11_add(
-    draft: &mut [u64; 7],
+    draft: &mut [u64; DRAFT],
     buf: &mut [u8],
     time: u64,
     upper: u64,
@@ -128,7 +135,7 @@ pub extern "C" fn ch11_add(
 
 // Closes a body: builder's close.
 #[no_mangle]
-pub extern "C" fn ch11_close(draft: &mut [u64; 7], buf: &mut [u8]) -> u64
+pub extern "C" fn ch11_close(draft: &mut [u64; DRAFT], buf: &mut [u8]) -> u64
     ensures { λ r. ⌜ Close (now (draft .entry)) (now (buf .entry)) r (now (draft .exit)) (now (buf .exit)) ⌝ }
 {
     *draft = close_given(*draft, buf);

@@ -8,9 +8,10 @@ use native.Mathlib.Nat.{mod-one}
 use lib.ListN.{length}
 use lib.Dec.{T, eqb}
 use borrow.Author.Tests.{le-leb, lt-leb}
-use Rattle.units.specs.Units.{part, num, field, sumUnits, sumWidth, secondarySum, dataSum, summed, zeros}
+use Rattle.units.specs.Units.{part, num, field, sumUnits, summed, zeros}
+use Rattle.frame.specs.Sums.{sumWidth, secondarySum, dataSum}
 use Rattle.units.proofs.Parts.{field-part}
-use Rattle.body.proofs.Blocks.{zero-ok}
+use Rattle.terms.proofs.Times.{zero-ok}
 use Rattle.frame.specs.Header.{packetLength, flagsIn, secondaryBit, timeIn, sumAt, bodyAndFillerIn}
 use Rattle.frame.specs.Rules.{secondaryTimeOk, secondarySummed, secondaryOk, dataSummed, fillerOk}
 use Rattle.frame.specs.Table.{Line, first, wholeLines, secondaryLines}

@@ -4,7 +4,8 @@ use mathlib.Core.List.{List}
 use Prim.Native.Nat.{ℕ, zero, suc, _+_, _%_, _≤_, _<_}
 use native.Mathlib.Omega.{arith}
 use lib.ListN.{set, length}
-use Rattle.units.specs.Units.{field, splice, bytesOf, sumWidth}
+use Rattle.units.specs.Units.{field, splice, bytesOf}
+use Rattle.frame.specs.Sums.{sumWidth}
 use Rattle.units.proofs.Writes.{stored}
 
 pub width-is : (code : ℕ) → code < 3 → sumWidth code ≡ code

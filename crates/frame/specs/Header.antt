@@ -3,7 +3,8 @@
 use mathlib.Core.List.{List, [], _∷_}
 use Prim.Native.Nat.{ℕ, _+_, _*_, _-_, _/_, _%_}
 use lib.ListN.{getD}
-use Rattle.units.specs.Units.{part, field, sumWidth}
+use Rattle.units.specs.Units.{part, field}
+use Rattle.frame.specs.Sums.{sumWidth}
 use Rattle.frame.specs.declared.Fields.{Fields}
 
 -- ---- its fields

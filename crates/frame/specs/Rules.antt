@@ -4,10 +4,11 @@ use mathlib.Core.Bool.{Bool, not, _&&_, _||_}
 use Prim.Native.Nat.{ℕ, _+_, _%_}
 use lib.ListN.{length}
 use lib.Dec.{leb, eqb}
-use Rattle.units.specs.Units.{dataSum, summed, zeros}
+use Rattle.units.specs.Units.{summed, zeros}
+use Rattle.frame.specs.Sums.{dataSum}
 use Rattle.units.specs.Choice.{pick}
-use Rattle.body.specs.Times.{timeOk, ruleOf}
-use Rattle.body.specs.declared.TimeRule.{TimeRule}
+use Rattle.terms.specs.Times.{timeOk, ruleOf}
+use Rattle.terms.specs.declared.TimeRule.{TimeRule}
 use Rattle.frame.specs.Header.{byte, sync, packetLength, flagsIn, secondaryBit, absoluteBit, timeFormat, sumCode, unfilledLength, secondaryIn, fillerIn, bodyAndFillerIn, dataSumIn, timeIn, reservedIn}
 
 -- ---- rules of numbers, for reader and writer alike

@@ -2,7 +2,8 @@
 ghost use mathlib.Core.Path.{_≡_};
 ghost use Prim.Native.Nat.{_+_, _≤_, _<_};
 ghost use lib.ListN.{length};
-ghost use Rattle.units.specs.Units.{field, splice, bytesOf, sumWidth};
+ghost use Rattle.units.specs.Units.{field, splice, bytesOf};
+ghost use Rattle.frame.specs.Sums.{sumWidth};
 ghost use Rattle.frame.specs.Rules.{synced};
 ghost use Rattle.frame.specs.Header.{sync};
 use units::copy_at;

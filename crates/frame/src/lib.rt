@@ -2,6 +2,7 @@
 // A window's bytes are taken from the packet's first on; places are counted from it.
 pub mod head;
 pub mod rules;
+pub mod sums;
 pub mod table;
 
 // What a packet holds but for its body, and what a writer is told: the primary header's numbers that are not worked out, and

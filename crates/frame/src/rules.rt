@@ -5,9 +5,9 @@ ghost use lib.Dec.{leb};
 ghost use Rattle.frame.specs.Header.{sumLength, bodyAt, unfilledLength, lengthFor};
 ghost use Rattle.frame.specs.Rules.{versionOk, typeOk, flagsOk, channelOk, limit, lengthsOk, secondaryTimeOk, messageRule};
 ghost use Rattle.frame.specs.Table.{first, valueLines};
-use body::TimeRule;
-use body::time::rule_of;
-use body::time::time_ok;
+use terms::TimeRule;
+use terms::time::rule_of;
+use terms::time::time_ok;
 
 fn version_ok(version: u8) -> bool
     ensures { λ r. ⌜ r ≡ versionOk version ⌝ }

@@ -14,14 +14,14 @@ use crate::rules::body_at;
 use crate::rules::secondary_time_ok;
 use crate::rules::sum_length;
 use crate::rules::value_refusal;
+use crate::sums::data_sum;
+use crate::sums::header_sum;
+use crate::sums::secondary_sum;
 use units::all_zero;
-use units::data_sum;
-use units::header_sum;
 use units::read16;
 use units::read32;
 use units::read48;
 use units::read64;
-use units::secondary_sum;
 
 // The first of 2 to 14 that applies, or 0. `[0..]` keeps the slice in registers (docs/DECISIONS.md, "Speed").
 pub fn frame_refusal(w: &[u8]) -> u8

@@ -8,8 +8,8 @@ use lib.ListN.{length}
 use lib.Dec.{ltb}
 use borrow.Rule.Slice.PartMut.{midOf, mid-len}
 use Rattle.units.specs.Choice.{pick}
-use Rattle.body.specs.Walk.{refused}
-use Rattle.body.specs.declared.Refusal.{Refusal}
+use Rattle.terms.specs.Refusals.{refused, needing}
+use Rattle.terms.specs.declared.Refusal.{Refusal}
 use Rattle.packet.specs.Read.{window, readPacket}
 use Rattle.packet.specs.Messages.{messageCount, listAnswer, listPacket}
 use Rattle.packet.specs.declared.Packet.{Packet}
@@ -20,22 +20,22 @@ use Rattle.packet.specs.declared.PacketList.the-variants.{Listed, Unlisted}
 
 module _ (buf : List ℕ) (at end len₁ len₂ : ℕ) (a : PacketList) (says : a ≡ listPacket buf at end len₁ len₂) (p : Packet) (accepts : readPacket buf at end ≡ Accepted p) where
   -- of an accepted packet the lister says 16, with their number as room, or their number
-  said : a ≡ pick (ltb (min len₁ len₂) (messageCount (window buf at end))) (Unlisted (refused 16 at (messageCount (window buf at end)))) (Listed (messageCount (window buf at end)))
+  said : a ≡ pick (ltb (min len₁ len₂) (messageCount (window buf at end))) (Unlisted (needing (messageCount (window buf at end)) (refused 16 at))) (Listed (messageCount (window buf at end)))
   unfolding listPacket listAnswer
   said = says ∙ ap (λ (r : PacketRead). listAnswer r at (messageCount (window buf at end)) (min len₁ len₂)) accepts
 
   pub listed-count : (n : ℕ) → a ≡ Listed n → n ≡ messageCount (window buf at end)
   listed-count n e = go (ltb (min len₁ len₂) (messageCount (window buf at end))) (messageCount (window buf at end)) (sym said ∙ e)
     where
-      go : (t : Bool) (m : ℕ) → pick t (Unlisted (refused 16 at m)) (Listed m) ≡ Listed n → n ≡ m
+      go : (t : Bool) (m : ℕ) → pick t (Unlisted (needing m (refused 16 at))) (Listed m) ≡ Listed n → n ≡ m
       go true m q = let z : _≡_ {A = ℕ} 0 1 = cc in absurd (omega arith)
       go false m q = let same : m ≡ n = cc q in sym same
 
   pub room-count : (r : Refusal) → a ≡ Unlisted r → r .room ≡ messageCount (window buf at end)
   room-count r e = go (ltb (min len₁ len₂) (messageCount (window buf at end))) (messageCount (window buf at end)) (sym said ∙ e)
     where
-      go : (t : Bool) (m : ℕ) → pick t (Unlisted (refused 16 at m)) (Listed m) ≡ Unlisted r → r .room ≡ m
-      go true m q = let same : refused 16 at m ≡ r = cc q in ap (λ (x : Refusal). x .room) (sym same)
+      go : (t : Bool) (m : ℕ) → pick t (Unlisted (needing m (refused 16 at))) (Listed m) ≡ Unlisted r → r .room ≡ m
+      go true m q = let same : needing m (refused 16 at) ≡ r = cc q in ap (λ (x : Refusal). x .room) (sym same)
       go false m q = let z : _≡_ {A = ℕ} 0 1 = cc in absurd (omega arith)
 
 -- n bytes more, read behind those that fill the room so far, are still in it; as many as `behind` fit there

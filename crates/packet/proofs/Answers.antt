@@ -2,7 +2,7 @@
 use mathlib.Core.Path.{_≡_, refl, sym, ap, _∙_}
 use mathlib.Core.List.{List}
 use mathlib.Core.Bool.{Bool, true, false}
-use Prim.Native.Nat.{ℕ, _+_, _-_, _≤_, _<_, min}
+use Prim.Native.Nat.{ℕ, _+_, _-_, _≤_, min}
 use native.Mathlib.Omega.{arith}
 use native.Mathlib.Decide.{decLe}
 use lib.ListN.{length}
@@ -12,11 +12,12 @@ use Rattle.units.specs.Units.{part, field}
 use Rattle.units.specs.Choice.{pick}
 use Rattle.units.proofs.Choices.{and-true}
 use Rattle.units.proofs.Parts.{length-part}
-use Rattle.body.specs.Walk.{refused, fault, opens, openBody}
+use Rattle.body.specs.Walk.{opens, openBody}
+use Rattle.terms.specs.Refusals.{refused, needing, moved}
 use Rattle.body.specs.Answers.{checkBody, messageIn, messageAt, pickCounted, listOf, listCounted, startsOf, lengthsOf, filledAfter}
 use Rattle.body.proofs.Bounds.{faulty-place, message-fits}
-use Rattle.body.specs.declared.TimeRule.{TimeRule}
-use Rattle.body.specs.declared.Refusal.{Refusal}
+use Rattle.terms.specs.declared.TimeRule.{TimeRule}
+use Rattle.terms.specs.declared.Refusal.{Refusal}
 use Rattle.body.specs.declared.Message.{Message}
 use Rattle.body.specs.declared.Checked.{Checked}
 use Rattle.body.specs.declared.Checked.the-variants.{Counted, Faulty}
@@ -44,22 +45,31 @@ use Rattle.packet.specs.declared.PacketList.the-variants.{Listed, Unlist
 use Rattle.packet.specs.declared.PacketMessage.{PacketMessage}
 use Rattle.packet.specs.declared.PacketMessage.the-variants.{Given, Withheld}
 
--- ---- 1 to 14
+-- ---- 1 and the frame's lines
 
 module _ (buf : List ℕ) (s e : ℕ) where
-  pub outer-disordered : e < s → 1 ≡ outerRefusal buf s e
+  pub outer-outside : inside buf s e ≡ false → 1 ≡ outerRefusal buf s e
   unfolding outerRefusal outerLines
-  outer-disordered h = stands 1 (frameLines (window buf s e)) (rw (lt-leb s e h))
+  outer-outside h = stands 1 (frameLines (window buf s e)) h
 
-  pub outer-past : s ≤ e → length buf < e → 1 ≡ outerRefusal buf s e
+  pub outer-inside : (n : ℕ) → inside buf s e ≡ true → n ≡ first (frameLines (window buf s e)) → n ≡ outerRefusal buf s e
   unfolding outerRefusal outerLines
-  outer-past h past = stands 1 (frameLines (window buf s e)) (rw (le-leb s e h, lt-leb e (length buf) past))
+  outer-inside n h q = passes 1 n (frameLines (window buf s e)) h q
 
-  pub outer-inside : (n : ℕ) → s ≤ e → e ≤ length buf → n ≡ first (frameLines (window buf s e)) → n ≡ outerRefusal buf s e
-  unfolding outerRefusal outerLines
-  outer-inside n h g q = passes 1 n (frameLines (window buf s e)) (rw (le-leb s e h, le-leb e (length buf) g)) q
+-- the window's test, taken apart
+pub inside-says : (buf : List ℕ) (s e : ℕ) → inside buf s e ≡ true → (s ≤ e) × (e ≤ length buf)
+unfolding inside
+inside-says buf s e h = let i = and-true (leb s e) (leb e (length buf)) h in (leb-true s e (i .0), leb-true e (length buf) (i .1))
 
--- a window that 1 to 14 let through
+pub inside-same : (a b : List ℕ) (s e : ℕ) → e ≤ length a → e ≤ length b → inside a s e ≡ inside b s e
+unfolding inside
+inside-same a b s e h g = rw (le-leb e (length a) h, le-leb e (length b) g)
+
+pub inside-made : (buf : List ℕ) (s e : ℕ) → s ≤ e → e ≤ length buf → inside buf s e ≡ true
+unfolding inside
+inside-made buf s e h g = rw (le-leb s e h, le-leb e (length buf) g)
+
+-- a window that they let through
 pub record LetThrough (buf : List ℕ) (s e : ℕ) : Type 0 where
   pub ordered : s ≤ e
   pub within : e ≤ length buf
@@ -72,12 +82,10 @@ unfolding outerRefusal outerLines
 outer-open buf s e z =
     let w = window buf s e in
     let l = holds 1 (inside buf s e) (frameLines w) tt z in
-    let i = and-true (leb s e) (leb e (length buf)) (l .0) in
-    let o : s ≤ e = leb-true s e (i .0) in
-    let f : e ≤ length buf = leb-true e (length buf) (i .1) in
+    let i = inside-says buf s e (l .0) in
     record {
-      ordered = o;
-      within = f;
+      ordered = i .0;
+      within = i .1;
       framed = l .1;
       sound = frame-sound w (l .1);
       reach = omega (arith, length-part buf s (e - s) (omega arith));
@@ -89,7 +97,7 @@ module _ (buf : List ℕ) (s e n : ℕ) (is : n ≡ outerRefusal buf s e) where
   pub opened : n ≡ 0 → LetThrough buf s e
   opened z = outer-open buf s e (sym is ∙ z)
 
-  pub read-refused : (r : Refusal) → (n ≡ 0 → ⊥) → r ≡ refused n s 0 → Refused r ≡ readPacket buf s e
+  pub read-refused : (r : Refusal) → (n ≡ 0 → ⊥) → r ≡ refused n s → Refused r ≡ readPacket buf s e
   unfolding readPacket
   read-refused r other q = rw (q, ← is, ne-eqb n 0 other)
 
@@ -97,7 +105,7 @@ module _ (buf : List ℕ) (s e n : ℕ) (is : n ≡ outerRefusal buf s e) where
   unfolding readPacket
   read-on x z q = let e₀ : outerRefusal buf s e ≡ 0 = sym is ∙ z in q ∙ rw e₀
 
-  pub list-refused : (m k : ℕ) (r : Refusal) → (n ≡ 0 → ⊥) → r ≡ refused n s 0 → Unlisted r ≡ listPacket buf s e m k
+  pub list-refused : (m k : ℕ) (r : Refusal) → (n ≡ 0 → ⊥) → r ≡ refused n s → Unlisted r ≡ listPacket buf s e m k
   unfolding listPacket listAnswer
   list-refused m k r other q = rw (← read-refused r other q)
 
@@ -107,7 +115,7 @@ module _ (buf : List ℕ) (s e n : ℕ) (is : n ≡ outerRefusal buf s e) where
   unfolding listPacket
   list-on m k x z q = q ∙ ap (λ (p : PacketRead). listAnswer p s (messageCount (window buf s e)) (min m k)) (read-on _ z refl)
 
-  pub message-refused : (k : ℕ) (r : Refusal) → (n ≡ 0 → ⊥) → r ≡ refused n s 0 → Withheld r ≡ messagePacket buf s e k
+  pub message-refused : (k : ℕ) (r : Refusal) → (n ≡ 0 → ⊥) → r ≡ refused n s → Withheld r ≡ messagePacket buf s e k
   unfolding messagePacket messageAnswer
   message-refused k r other q = rw (← read-refused r other q)
 
@@ -131,7 +139,7 @@ module _ (w : List ℕ) (l : Layout) (m : Measured w l) (rule : TimeRule) (ruled
       rw (n, m .body)
 
   pub checked-is : checkBody (kindIn w) rule (part w (l .body) (l .filler - l .body)) ≡ bodyChecked w
-  unfolding bodyChecked
+  unfolding fieldsIn bodyChecked
   checked-is = rw (body-is, ruled)
 
   pub message-is : (k : ℕ) → messageIn (kindIn w) rule (part w (l .body) (l .filler - l .body)) k ≡ messageIn (kindIn w) (messageRule (flagsIn w)) (bodyIn w) k
@@ -151,14 +159,14 @@ module _ (w : List ℕ) (l : Layout) (m : Measured w l) (rule : TimeRule) (ruled
 module _ (w : List ℕ) (at : ℕ) where
   -- a type that isn't opened
   pub pass-carried : (p : ℕ) → p ≡ packetLength w → opens (kindIn w) ≡ false → Passed p ≡ passOf (bodyAnswer (bodyChecked w) w at)
-  unfolding bodyAnswer bodyChecked checkBody openBody packetIn
+  unfolding fieldsIn bodyAnswer bodyChecked checkBody openBody packetIn
   pass-carried p q e = rw (e, q)
 
   pub pass-counted : (n p : ℕ) → bodyChecked w ≡ Counted n → p ≡ packetLength w → Passed p ≡ passOf (bodyAnswer (bodyChecked w) w at)
   unfolding bodyAnswer packetIn
   pass-counted n p e q = rw (e, q)
 
-  pub pass-faulty : (f r : Refusal) (body : ℕ) → bodyChecked w ≡ Faulty f → body ≡ bodyAt (flagsIn w) → r ≡ fault (at + body + f .place)
+  pub pass-faulty : (f r : Refusal) (body : ℕ) → bodyChecked w ≡ Faulty f → body ≡ bodyAt (flagsIn w) → r ≡ moved (at + body) f
       → Barred r ≡ passOf (bodyAnswer (bodyChecked w) w at)
   unfolding bodyAnswer
   pass-faulty f r body e b q = rw (e, q, b)
@@ -219,13 +227,13 @@ packet-is w at l f p d h x s m ef ep ed eh ex =
 -- the body's answer as the packet's
 abbrev pub fromListed : ℕ → ℕ → body-listed.Listed → PacketList
 fromListed at body (Count n) = Listed n
-fromListed at body (Body·Unlisted f) = Unlisted (fault (at + body + f .place))
-fromListed at body (NoRoom n) = Unlisted (refused 16 at n)
+fromListed at body (Body·Unlisted f) = Unlisted (moved (at + body) f)
+fromListed at body (NoRoom n) = Unlisted (needing n (refused 16 at))
 
-room-same : (at body m n : ℕ) → fromListed at body (pick (leb n m) (Count n) (NoRoom n)) ≡ pick (ltb m n) (Unlisted (refused 16 at n)) (Listed n)
+room-same : (at body m n : ℕ) → fromListed at body (pick (leb n m) (Count n) (NoRoom n)) ≡ pick (ltb m n) (Unlisted (needing n (refused 16 at))) (Listed n)
 room-same at body m n = go (decLe n m)
   where
-    go : Dec (n ≤ m) → fromListed at body (pick (leb n m) (Count n) (NoRoom n)) ≡ pick (ltb m n) (Unlisted (refused 16 at n)) (Listed n)
+    go : Dec (n ≤ m) → fromListed at body (pick (leb n m) (Count n) (NoRoom n)) ≡ pick (ltb m n) (Unlisted (needing n (refused 16 at))) (Listed n)
     go (yes h) = rw (le-leb n m h, le-ltb m n h)
     go (no h) = rw (lt-leb n m (omega arith), lt-ltb m n (omega arith))
 
@@ -292,13 +300,13 @@ inPacket body m = record { time = m .time; id = m .id; start = body + m .start; 
 
 abbrev pub fromPicked : ℕ → ℕ → Picked → PacketMessage
 fromPicked at body (One m) = Given (inPacket body m)
-fromPicked at body (Unread f) = Withheld (fault (at + body + f .place))
-fromPicked at body Missing = Withheld (refused 17 at 0)
+fromPicked at body (Unread f) = Withheld (moved (at + body) f)
+fromPicked at body Missing = Withheld (refused 17 at)
 
-number-same : (at body k n : ℕ) (m : Message) → fromPicked at body (pick (ltb k n) (One m) Missing) ≡ pick (leb n k) (Withheld (refused 17 at 0)) (Given (inPacket body m))
+number-same : (at body k n : ℕ) (m : Message) → fromPicked at body (pick (ltb k n) (One m) Missing) ≡ pick (leb n k) (Withheld (refused 17 at)) (Given (inPacket body m))
 number-same at body k n m = go (decLe n k)
   where
-    go : Dec (n ≤ k) → fromPicked at body (pick (ltb k n) (One m) Missing) ≡ pick (leb n k) (Withheld (refused 17 at 0)) (Given (inPacket body m))
+    go : Dec (n ≤ k) → fromPicked at body (pick (ltb k n) (One m) Missing) ≡ pick (leb n k) (Withheld (refused 17 at)) (Given (inPacket body m))
     go (yes h) = rw (le-leb n k h, le-ltb k n h)
     go (no h) = rw (lt-leb n k (omega arith), lt-ltb k n (omega arith))
 

@@ -10,15 +10,15 @@ use borrow.Author.Tests.{eqb-true, not-false}
 use mathlib.Core.Bool.{not}
 use Rattle.units.specs.Units.{part}
 use Rattle.units.proofs.Choices.{passed}
-use Rattle.body.specs.Walk.{refused}
-use Rattle.body.specs.declared.Refusal.{Refusal}
+use Rattle.terms.specs.Refusals.{refused}
+use Rattle.terms.specs.declared.Refusal.{Refusal}
 use Rattle.body.specs.declared.Checked.{Checked}
 use Rattle.body.specs.declared.Checked.the-variants.{Counted, Faulty}
 use Rattle.frame.specs.Header.{packetLength, flagsIn, dataLength, unfilledLength}
 use Rattle.frame.specs.Table.{first, frameLines}
 use Rattle.frame.specs.inner.Lengths.{Sound}
 use Rattle.frame.proofs.Frames.{flags-front, kind-front, packet-length-front, data-length-front, head-sum-front, filler-at-front, sum-at-front, body-front, data-sum-front, fields-front, frame-front, OfFront, own-bytes}
-use Rattle.packet.proofs.Answers.{outer-inside, LetThrough, outer-open}
+use Rattle.packet.proofs.Answers.{outer-inside, inside-made, LetThrough, outer-open}
 use Rattle.packet.proofs.Window.{entries-told}
 use Rattle.packet.specs.Read.{window, outerRefusal, packetIn, bodyChecked, bodyAnswer, readPacket, Together}
 use Rattle.packet.specs.Messages.{messageCount, kthMessage, listPacket, starts, lengths, messagePacket, entries}
@@ -47,7 +47,7 @@ unfolding readPacket
 accepted-at buf s e p h =
     let w = window buf s e in
     let n = outerRefusal buf s e in
-    let k = passed (not (eqb n 0)) (Refused (refused n s 0)) (bodyAnswer (bodyChecked w) w s) (Accepted p) (refused-accepted _ p) h in
+    let k = passed (not (eqb n 0)) (Refused (refused n s)) (bodyAnswer (bodyChecked w) w s) (Accepted p) (refused-accepted _ p) h in
     let b = from-body (bodyChecked w) w s p (k .1) in
     record {
       opens = outer-open buf s e (eqb-true n 0 (not-false (eqb n 0) (k .0)));
@@ -60,7 +60,7 @@ pub at-accepted : (buf : List ℕ) (s e : ℕ) (p : Packet) → AcceptedAt buf s
 unfolding readPacket bodyAnswer
 at-accepted buf s e p a =
     let o = a .opens in
-    let z : outerRefusal buf s e ≡ 0 = sym (outer-inside buf s e 0 (o .ordered) (o .within) (sym (o .framed))) in
+    let z : outerRefusal buf s e ≡ 0 = sym (outer-inside buf s e 0 (inside-made buf s e (o .ordered) (o .within)) (sym (o .framed))) in
     rw (z, a .body, a .packet)
 
 packet-in-length : (w : List ℕ) (at : ℕ) → packetIn w at .length ≡ packetLength w
@@ -90,7 +90,7 @@ accepted-fits buf s e p h =
 module _ (v t : List ℕ) (header : 24 ≤ length v) (there : packetLength v ≤ length v) (parts : unfilledLength (flagsIn v) (dataLength v) ≤ packetLength v) where
   pub checked-front : bodyChecked (v ++ t) ≡ bodyChecked v
   unfolding bodyChecked
-  checked-front = rw (body-front v t header there parts, kind-front v t header there parts, flags-front v t header there parts)
+  checked-front = rw (body-front v t header there parts, fields-front v t header there parts)
 
   packet-front : (at : ℕ) → packetIn (v ++ t) at ≡ packetIn v at
   unfolding packetIn
@@ -134,7 +134,7 @@ module _ (a b : List ℕ) (s e f : ℕ) (p : Packet) (h : readPacket a s e ≡ A
       let at = accepted-at a s e p h in
       at-accepted b s f p
       (record {
-        opens = outer-open b s f (sym (outer-inside b s f 0 (omega arith) in-b (sym (ap first (own frameLines frame-front) ∙ at .opens .framed))));
+        opens = outer-open b s f (sym (outer-inside b s f 0 (inside-made b s f (omega arith) in-b) (sym (ap first (own frameLines frame-front) ∙ at .opens .framed))));
         count = at .count;
         body = own bodyChecked checked-front ∙ at .body;
         packet = at .packet ∙ sym (own (λ w. packetIn w s) (λ v t header there parts. packet-front v t header there parts s));

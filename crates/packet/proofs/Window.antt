@@ -7,12 +7,13 @@ use native.Mathlib.Omega.{arith}
 use lib.ListN.{length, drop, length-append, length-drop}
 use lib.Seq.{take-at, drop-at}
 use lib.Dec.{ltb}
-use borrow.Author.Tests.{le-leb, ltb-false}
+use borrow.Author.Tests.{ltb-false}
 use Rattle.units.specs.Choice.{pick}
-use Rattle.body.specs.Walk.{refused}
+use Rattle.terms.specs.Refusals.{refused, needing}
 use Rattle.body.specs.Answers.{tab, filled}
 use Rattle.body.proofs.Reading.{length-tab}
 use Rattle.packet.specs.Read.{window, outerLines, outerRefusal, readPacket}
+use Rattle.packet.proofs.Answers.{inside-same}
 use Rattle.packet.specs.Messages.{messageCount, listAnswer, listPacket, listAfter, starts, lengths, messagePacket, listTold, entries}
 use Rattle.packet.specs.declared.PacketRead.{PacketRead}
 use Rattle.packet.specs.declared.PacketRead.the-variants.{Accepted, Refused}
@@ -39,7 +40,7 @@ counted-fits : (x : PacketRead) (at n room : ℕ) → listTold (listAnswer x at 
 unfolding listAnswer
 counted-fits (Accepted p) at n room = go (ltb room n) refl
   where
-    go : (t : Bool) → ltb room n ≡ t → listTold (pick t (Unlisted (refused 16 at n)) (Listed n)) .count ≤ room
+    go : (t : Bool) → ltb room n ≡ t → listTold (pick t (Unlisted (needing n (refused 16 at))) (Listed n)) .count ≤ room
     go true e = omega arith
     go false e = ltb-false room n e
 counted-fits (Refused r) at n room = omega arith
@@ -59,7 +60,7 @@ length-after (Unlisted r) values old h = refl
 module _ (a b : List ℕ) (s e : ℕ) (in-a : e ≤ length a) (in-b : e ≤ length b) (same : window a s e ≡ window b s e) where
   pub read-window : readPacket a s e ≡ readPacket b s e
   unfolding readPacket outerRefusal outerLines
-  read-window = rw (same, le-leb e (length a) in-a, le-leb e (length b) in-b)
+  read-window = rw (same, inside-same a b s e in-a in-b)
 
   pub message-window : (k : ℕ) → messagePacket a s e k ≡ messagePacket b s e k
   unfolding messagePacket

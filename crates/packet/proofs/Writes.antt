@@ -9,15 +9,17 @@ use lib.Dec.{ltb}
 use borrow.Author.Tests.{lt-ltb, le-ltb, ltb-false, ne-eqb}
 use Rattle.units.specs.Units.{splice}
 use Rattle.units.specs.Choice.{pick}
-use Rattle.body.specs.Walk.{refused, fault}
+use Rattle.terms.specs.Refusals.{refused, needing, placed}
 use Rattle.body.specs.Answers.{checkBody}
-use Rattle.body.specs.declared.TimeRule.{TimeRule}
-use Rattle.body.specs.declared.Refusal.{Refusal}
+use Rattle.terms.specs.declared.TimeRule.{TimeRule}
+use Rattle.terms.specs.declared.Refusal.{Refusal}
 use Rattle.body.specs.declared.Checked.{Checked}
 use Rattle.body.specs.declared.Checked.the-variants.{Counted, Faulty}
 use Rattle.frame.specs.declared.Fields.{Fields}
 use Rattle.frame.specs.Header.{lengthFor}
 use Rattle.frame.specs.Rules.{secondaryTimeOk, messageRule}
+use Rattle.frame.specs.Contents.{Contents}
+use Rattle.packet.specs.Read.{contentsChecked}
 use Rattle.frame.specs.Table.{line, valueLines}
 use Rattle.frame.proofs.Tables.{holds, stage-first}
 use Rattle.frame.proofs.Frames.{valued-says, lengths-say, limit-cap}
@@ -25,22 +27,21 @@ use Rattle.packet.specs.Write.{inRange, writerLines, writerRefusal, fitt
 use Rattle.packet.specs.declared.PacketWrite.{PacketWrite}
 use Rattle.packet.specs.declared.PacketWrite.the-variants.{Written, Unwritten}
 
--- ---- 15 and 16; c is what the body's check said
+-- ---- 15 and 16; x is what the body's check said
 
-module _ (f : Fields) (body : List ℕ) (rule : TimeRule) (c : Checked) (n room : ℕ) (ruled : rule ≡ messageRule (f .flags)) (says : c ≡ checkBody (f .kind) rule body) where
-  fitted-as : fitted c n room ≡ fitted (checkBody (f .kind) (messageRule (f .flags)) body) n room
-  fitted-as = ap (λ (x : Checked). fitted x n room) (says ∙ ap (λ (r : TimeRule). checkBody (f .kind) r body) ruled)
+module _ (c : Contents) (rule : TimeRule) (x : Checked) (n room : ℕ) (ruled : rule ≡ messageRule (c .fields .flags)) (says : x ≡ checkBody (c .fields .kind) rule (c .body)) where
+  fitted-as : fitted x n room ≡ fitted (contentsChecked c) n room
+  fitted-as = ap (λ (y : Checked). fitted y n room) (says ∙ ap (λ (r : TimeRule). checkBody (c .fields .kind) r (c .body)) ruled)
 
-  pub fit-short : (k : ℕ) (r : Refusal) → c ≡ Counted k → room < n → r ≡ refused 16 0 n
-      → Unwritten r ≡ fitted (checkBody (f .kind) (messageRule (f .flags)) body) n room
+  pub fit-short : (k : ℕ) (r : Refusal) → x ≡ Counted k → room < n → r ≡ needing n (refused 16 0) → Unwritten r ≡ fitted (contentsChecked c) n room
   unfolding fitted
   fit-short k r e h q = rw (q, ← fitted-as, e, lt-ltb room n h)
 
-  pub fit-room : (k : ℕ) → c ≡ Counted k → n ≤ room → Written n ≡ fitted (checkBody (f .kind) (messageRule (f .flags)) body) n room
+  pub fit-room : (k : ℕ) → x ≡ Counted k → n ≤ room → Written n ≡ fitted (contentsChecked c) n room
   unfolding fitted
   fit-room k e h = rw (← fitted-as, e, le-ltb room n h)
 
-  pub fit-faulty : (g r : Refusal) → c ≡ Faulty g → r ≡ fault 0 → Unwritten r ≡ fitted (checkBody (f .kind) (messageRule (f .flags)) body) n room
+  pub fit-faulty : (g r : Refusal) → x ≡ Faulty g → r ≡ placed 0 g → Unwritten r ≡ fitted (contentsChecked c) n room
   unfolding fitted
   fit-faulty g r e q = rw (q, ← fitted-as, e)
 
@@ -49,22 +50,22 @@ pub written-room : (c : Checked) (n room k : ℕ) → fitted c n room ≡ Writte
 unfolding fitted
 written-room (Counted m) n room k e = go (ltb room n) refl e
   where
-    go : (t : Bool) → ltb room n ≡ t → pick t (Unwritten (refused 16 0 n)) (Written n) ≡ Written k → n ≤ room
+    go : (t : Bool) → ltb room n ≡ t → pick t (Unwritten (needing n (refused 16 0))) (Written n) ≡ Written k → n ≤ room
     go true t q = let z : _≡_ {A = ℕ} 0 1 = cc in absurd (omega arith)
     go false t q = ltb-false room n t
 written-room (Faulty r) n room k e = let z : _≡_ {A = ℕ} 0 1 = cc in absurd (omega arith)
 
 -- ---- the whole; number is what the code found, p the packet's length
 
-module _ (f : Fields) (body : List ℕ) (room number : ℕ) (is : number ≡ writerRefusal f (length body)) where
-  pub write-refused : (r : Refusal) → (number ≡ 0 → ⊥) → r ≡ refused number 0 0 → Unwritten r ≡ writePacket f body room
+module _ (c : Contents) (room number : ℕ) (is : number ≡ writerRefusal (c .fields) (length (c .body))) where
+  pub write-refused : (r : Refusal) → (number ≡ 0 → ⊥) → r ≡ refused number 0 → Unwritten r ≡ writePacket c room
   unfolding writePacket
   write-refused r other q = rw (q, ← is, ne-eqb number 0 other)
 
-  pub write-on : (p : ℕ) (x : PacketWrite) → number ≡ 0 → p ≡ lengthFor (f .flags) (length body)
-      → x ≡ fitted (checkBody (f .kind) (messageRule (f .flags)) body) p room → x ≡ writePacket f body room
+  pub write-on : (p : ℕ) (x : PacketWrite) → number ≡ 0 → p ≡ lengthFor (c .fields .flags) (length (c .body)) → x ≡ fitted (contentsChecked c) p room
+      → x ≡ writePacket c room
   unfolding writePacket
-  write-on p x z e q = let none : writerRefusal f (length body) ≡ 0 = sym is ∙ z in q ∙ rw (none, e)
+  write-on p x z e q = let none : writerRefusal (c .fields) (length (c .body)) ≡ 0 = sym is ∙ z in q ∙ rw (none, e)
 
 -- P is within its limit
 pub write-capped : (f : Fields) (d : ℕ) → writerRefusal f d ≡ 0 → lengthFor (f .flags) d ≤ 134217728

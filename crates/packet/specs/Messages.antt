@@ -4,15 +4,15 @@ use Prim.Native.Nat.{ℕ, _+_, min}
 use lib.ListN.{length, take}
 use lib.Dec.{leb, ltb}
 use Rattle.units.specs.Choice.{pick}
-use Rattle.body.specs.Walk.{refused}
+use Rattle.terms.specs.Refusals.{refused, noRefusal, needing}
 use Rattle.body.specs.Answers.{noMessage, messageIn, filled}
 use Rattle.body.specs.declared.Message.{Message}
-use Rattle.body.specs.declared.Refusal.{Refusal}
+use Rattle.terms.specs.declared.Refusal.{Refusal}
 use Rattle.body.specs.declared.Checked.{Checked}
 use Rattle.body.specs.declared.Checked.the-variants.{Counted, Faulty}
 use Rattle.frame.specs.Header.{flagsIn, kindIn, bodyAt, bodyIn}
 use Rattle.frame.specs.Rules.{messageRule}
-use Rattle.packet.specs.Read.{window, bodyChecked, readPacket, noRefusal}
+use Rattle.packet.specs.Read.{window, bodyChecked, readPacket}
 use Rattle.packet.specs.declared.PacketRead.{PacketRead}
 use Rattle.packet.specs.declared.PacketRead.the-variants.{Accepted, Refused}
 use Rattle.packet.specs.declared.PacketList.{PacketList}
@@ -44,7 +44,7 @@ kthMessage w k =
 
 -- 16 exactly when there are more messages than the shorter list holds, with the room needed
 unfoldable pub listAnswer : PacketRead → ℕ → ℕ → ℕ → PacketList
-listAnswer (Accepted p) at n room = pick (ltb room n) (Unlisted (refused 16 at n)) (Listed n)
+listAnswer (Accepted p) at n room = pick (ltb room n) (Unlisted (needing n (refused 16 at))) (Listed n)
 listAnswer (Refused r) at n room = Unlisted r
 
 -- the answer, for lists of these lengths
@@ -66,7 +66,7 @@ lengths w k = kthMessage w k .length
 
 -- 17, at the packet's start, where there is no message of that number
 unfoldable pub messageAnswer : PacketRead → ℕ → ℕ → ℕ → Message → PacketMessage
-messageAnswer (Accepted p) at n k m = pick (leb n k) (Withheld (refused 17 at 0)) (Given m)
+messageAnswer (Accepted p) at n k m = pick (leb n k) (Withheld (refused 17 at)) (Given m)
 messageAnswer (Refused r) at n k m = Withheld r
 
 unfoldable pub messagePacket : List ℕ → ℕ → ℕ → ℕ → PacketMessage

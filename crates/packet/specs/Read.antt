@@ -7,12 +7,13 @@ use lib.ListN.{length}
 use lib.Dec.{leb, eqb}
 use Rattle.units.specs.Units.{part}
 use Rattle.units.specs.Choice.{pick}
-use Rattle.body.specs.Walk.{refused, fault}
+use Rattle.terms.specs.Refusals.{refused, noRefusal, moved}
+use Rattle.terms.specs.declared.Refusal.{Refusal}
 use Rattle.body.specs.Answers.{checkBody}
-use Rattle.body.specs.declared.Refusal.{Refusal}
 use Rattle.body.specs.declared.Checked.{Checked}
 use Rattle.body.specs.declared.Checked.the-variants.{Counted, Faulty}
-use Rattle.frame.specs.Header.{packetLength, dataLength, flagsIn, kindIn, headerSumIn, sumLength, secondaryLength, bodyAt, fillerAt, sumAt, fillerLength, bodyIn, dataSumIn, fieldsIn}
+use Rattle.frame.specs.Header.{packetLength, dataLength, flagsIn, headerSumIn, sumLength, secondaryLength, bodyAt, fillerAt, sumAt, fillerLength, dataSumIn, fieldsIn}
+use Rattle.frame.specs.Contents.{Contents, contentsIn}
 use Rattle.frame.specs.Rules.{messageRule}
 use Rattle.frame.specs.Table.{Line, line, first, frameLines}
 use Rattle.packet.specs.declared.Part.{Part}
@@ -23,14 +24,14 @@ use Rattle.packet.specs.declared.PacketRead.the-variants.{Accepted, Refu
 -- ---- the window
 
 -- a start and a filled end in a buffer
-abbrev pub inside : List ℕ → ℕ → ℕ → Bool
+unfoldable pub inside : List ℕ → ℕ → ℕ → Bool
 inside buf start end = leb start end && leb end (length buf)
 
 -- the bytes between them
 abbrev pub window : List ℕ → ℕ → ℕ → List ℕ
 window buf start end = part buf start (end - start)
 
--- 1 to 14, all placed at the packet's start
+-- 1 and the frame's lines, all placed at the packet's start
 unfoldable pub outerLines : List ℕ → ℕ → ℕ → List Line
 outerLines buf start end = line 1 (inside buf start end) ∷ frameLines (window buf start end)
 
@@ -70,27 +71,27 @@ pub record Together (at : ℕ) (p : Packet) : Type 0 where
 
 -- ---- the answer
 
--- what the body's layout says: the number of its messages (0 for a type that isn't opened), or its first fault
+-- what the body's layout says of contents: the number of its messages (0 for a type that isn't opened), or its first fault
+abbrev pub contentsChecked : Contents → Checked
+contentsChecked c = checkBody (c .fields .kind) (messageRule (c .fields .flags)) (c .body)
+
+-- and of a packet
 unfoldable pub bodyChecked : List ℕ → Checked
-bodyChecked w = checkBody (kindIn w) (messageRule (flagsIn w)) (bodyIn w)
+bodyChecked w = contentsChecked (contentsIn w)
 
 -- 15, at the channel word or the block at fault (or the bytes left over, or where a missing block should begin); else the packet is accepted
 unfoldable pub bodyAnswer : Checked → List ℕ → ℕ → PacketRead
 bodyAnswer (Counted n) w at = Accepted (packetIn w at)
-bodyAnswer (Faulty f) w at = Refused (fault (at + bodyAt (flagsIn w) + f .place))
+bodyAnswer (Faulty f) w at = Refused (moved (at + bodyAt (flagsIn w)) f)
 
--- 1 to 14 from the top, then 15
+-- those from the top, then 15
 unfoldable pub readPacket : List ℕ → ℕ → ℕ → PacketRead
 readPacket buf start end =
     pick (not (eqb (outerRefusal buf start end) 0))
-    (Refused (refused (outerRefusal buf start end) start 0))
+    (Refused (refused (outerRefusal buf start end) start))
     (bodyAnswer (bodyChecked (window buf start end)) (window buf start end) start)
 
 -- ---- document 01's number and values of an answer
-
--- no refusal: number, place and room are 0
-abbrev pub noRefusal : Refusal
-noRefusal = refused 0 0 0
 
 abbrev pub noPart : Part
 noPart = partAt 0 0

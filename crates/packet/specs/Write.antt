@@ -6,16 +6,16 @@ use lib.ListN.{length}
 use lib.Dec.{ltb, eqb}
 use Rattle.units.specs.Units.{splice}
 use Rattle.units.specs.Choice.{pick}
-use Rattle.body.specs.Walk.{refused, fault}
-use Rattle.body.specs.Answers.{checkBody}
-use Rattle.body.specs.declared.Refusal.{Refusal}
+use Rattle.terms.specs.Refusals.{refused, needing, noRefusal, placed}
+use Rattle.terms.specs.declared.Refusal.{Refusal}
 use Rattle.body.specs.declared.Checked.{Checked}
 use Rattle.body.specs.declared.Checked.the-variants.{Counted, Faulty}
 use Rattle.frame.specs.declared.Fields.{Fields}
 use Rattle.frame.specs.Header.{secondaryBit, lengthFor}
-use Rattle.frame.specs.Rules.{secondaryTimeOk, messageRule}
+use Rattle.frame.specs.Rules.{secondaryTimeOk}
+use Rattle.frame.specs.Contents.{Contents, contentsLength}
+use Rattle.packet.specs.Read.{contentsChecked}
 use Rattle.frame.specs.Table.{Line, line, first, valueLines}
-use Rattle.packet.specs.Read.{noRefusal}
 use Rattle.packet.specs.declared.PacketWrite.{PacketWrite}
 use Rattle.packet.specs.declared.PacketWrite.the-variants.{Written, Unwritten}
 
@@ -36,15 +36,15 @@ writerRefusal f d = first (writerLines f d)
 
 -- then 15, then 16 with the whole packet's length as room
 unfoldable pub fitted : Checked → ℕ → ℕ → PacketWrite
-fitted (Counted n) length room = pick (ltb room length) (Unwritten (refused 16 0 length)) (Written length)
-fitted (Faulty r) length room = Unwritten (fault 0)
+fitted (Counted n) length room = pick (ltb room length) (Unwritten (needing length (refused 16 0))) (Written length)
+fitted (Faulty r) length room = Unwritten (placed 0 r)
 
 -- the answer, for an output of this room
-unfoldable pub writePacket : Fields → List ℕ → ℕ → PacketWrite
-writePacket f body room =
-    pick (not (eqb (writerRefusal f (length body)) 0))
-    (Unwritten (refused (writerRefusal f (length body)) 0 0))
-    (fitted (checkBody (f .kind) (messageRule (f .flags)) body) (lengthFor (f .flags) (length body)) room)
+unfoldable pub writePacket : Contents → ℕ → PacketWrite
+writePacket c room =
+    pick (not (eqb (writerRefusal (c .fields) (length (c .body))) 0))
+    (Unwritten (refused (writerRefusal (c .fields) (length (c .body))) 0))
+    (fitted (contentsChecked c) (contentsLength c) room)
 
 -- the output after it: the packet's bytes first, those behind them untouched; all untouched on a refusal
 unfoldable pub outAfter : PacketWrite → List ℕ → List ℕ → List ℕ

@@ -12,29 +12,29 @@ use crate::PacketMessage;
 use crate::PacketPass;
 use crate::PacketRead;
 use crate::Part;
+use crate::inside;
 use body::Listed;
 use body::Message;
 use body::Picked;
-use body::fault;
 use body::opening::opens_kind;
-use body::refuse;
 use body::walk::walk_body;
+use body::walk::walk_refusal;
 use frame::head::read_sum;
 use frame::rules::message_rule;
 use frame::table::fields_in;
 use frame::table::frame_refusal;
 use frame::table::measure;
+use terms::moved;
+use terms::no_room;
+use terms::refuse;
 use units::read16;
 use units::read32;
 
-// The first of 1 to 14 that applies, or 0.
+// The first of 1 and the frame's table that applies, or 0.
 pub fn outer_refusal(buf: &[u8], start: usize, end: usize) -> u8
     ensures { λ r. ⌜ r ≡ outerRefusal (now (buf .entry)) start end ⌝ }
 {
-    if end < start {
-        return 1;
-    }
-    if buf.len() < end {
+    if !inside(buf, start, end) {
         return 1;
     }
     frame_refusal(&buf[start..end])
@@ -55,7 +55,7 @@ pub fn pass_framed(w: &[u8], at: usize) -> PacketPass
     let filler = layout.filler;
     let walked = walk_body(&w[body..filler], kind, message_rule(w[14]));
     if walked.count == 0 {
-        return PacketPass::Barred(fault(at + body + walked.place));
+        return PacketPass::Barred(moved(walk_refusal(walked), at + body));
     }
     PacketPass::Passed(read32(w, 4))
 }
@@ -129,8 +129,8 @@ pub fn list_framed(w: &[u8], at: usize, starts: &mut [u32], lengths: &mut [u32])
         lengths,
     ) {
         Listed::Count(n) => PacketList::Listed(n),
-        Listed::Unlisted(f) => PacketList::Unlisted(fault(at + body + f.place)),
-        Listed::NoRoom(n) => PacketList::Unlisted(refuse(16, at, n)),
+        Listed::Unlisted(f) => PacketList::Unlisted(moved(f, at + body)),
+        Listed::NoRoom(n) => PacketList::Unlisted(no_room(at, n)),
     }
 }
 
@@ -150,7 +150,7 @@ pub fn message_framed(w: &[u8], at: usize, number: usize) -> PacketMessage
             start: body + m.start,
             length: m.length,
         }),
-        Picked::Unread(f) => PacketMessage::Withheld(fault(at + body + f.place)),
-        Picked::Missing => PacketMessage::Withheld(refuse(17, at, 0)),
+        Picked::Unread(f) => PacketMessage::Withheld(moved(f, at + body)),
+        Picked::Missing => PacketMessage::Withheld(refuse(17, at)),
     }
 }

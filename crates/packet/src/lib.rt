@@ -3,18 +3,19 @@
 ghost use mathlib.Core.Path.{_≡_};
 ghost use lib.ListN.{length};
 ghost use Prim.Native.Nat.{_≤_};
-ghost use Rattle.packet.specs.Read.{window, readPacket};
+ghost use Rattle.packet.specs.Read.{inside, window, readPacket};
 ghost use Rattle.packet.specs.inner.Passes.{passOf};
 ghost use Rattle.packet.specs.Messages.{listPacket, listAfter, starts as Messages·starts, lengths as Messages·lengths, messagePacket};
+ghost use Rattle.frame.specs.Contents.{contents};
 ghost use Rattle.packet_bytes.specs.Bytes.{packetBytes};
 ghost use Rattle.packet.specs.Write.{writePacket, outAfter};
 use body::Message;
-use body::Refusal;
-use body::refuse;
 use frame::Fields;
 use frame::rules::length_for;
 use frame::table::frame_refusal;
 use packet_bytes::put_packet;
+use terms::Refusal;
+use terms::refuse;
 
 mod framed;
 mod writing;
@@ -77,13 +78,20 @@ pub enum PacketWrite {
     Unwritten(Refusal),
 }
 
-// Reads the packet at the start of a window. Refusals 1 to 15.
+// Whether a window is inside its buffer: the one test, for the calls on a packet and for a recording.
+pub fn inside(buf: &[u8], start: usize, end: usize) -> bool
+    ensures { λ r. ⌜ r ≡ inside (now (buf .entry)) start end ⌝ }
+{
+    (start <= end) & (end <= buf.len())
+}
+
+// Reads the packet at the start of a window. The reader's refusals: 1, those of the frame's table, then 15.
 pub fn read_packet(buf: &[u8], start: usize, end: usize) -> PacketRead
     ensures { λ r. ⌜ r ≡ readPacket (now (buf .entry)) start end ⌝ }
 {
     let number = outer_refusal(buf, start, end);
     if number != 0 {
-        return PacketRead::Refused(refuse(number, start, 0));
+        return PacketRead::Refused(refuse(number, start));
     }
     read_framed(&buf[start..end], start)
 }
@@ -95,7 +103,7 @@ pub fn pass_packet(buf: &[u8], start: usize, end: usize) -> PacketPass
 {
     let number = frame_refusal(&buf[start..end]);
     if number != 0 {
-        return PacketPass::Barred(refuse(number, start, 0));
+        return PacketPass::Barred(refuse(number, start));
     }
     pass_framed(&buf[start..end], start)
 }
@@ -116,7 +124,7 @@ pub fn list_messages(
 {
     let number = outer_refusal(buf, start, end);
     if number != 0 {
-        return PacketList::Unlisted(refuse(number, start, 0));
+        return PacketList::Unlisted(refuse(number, start));
     }
     list_framed(&buf[start..end], start, starts, lengths)
 }
@@ -128,7 +136,7 @@ pub fn message(buf: &[u8], start: usize, end: usize, number: usize) -> PacketMes
 {
     let refusal = outer_refusal(buf, start, end);
     if refusal != 0 {
-        return PacketMessage::Withheld(refuse(refusal, start, 0));
+        return PacketMessage::Withheld(refuse(refusal, start));
     }
     message_framed(&buf[start..end], start, number)
 }
@@ -137,13 +145,13 @@ pub fn message(buf: &[u8], start: usize, end: usize, number: usize) -> PacketMes
 // 17 (RTC of 2^48 or more; a time where bit 7 is clear), then 5 to 9, 12 and 15 by the reader's rules, then 16 with the packet's
 // length as room; the place is 0. The output behind the packet is untouched, and on a refusal all of it is.
 pub fn write_packet(fields: Fields, body: &[u8], out: &mut [u8]) -> PacketWrite
-    ensures { λ r. ⌜ r ≡ writePacket fields (now (body .entry)) (length (now (out .entry))) ⌝ }
-    ensures { λ r. ⌜ now (out .exit) ≡ outAfter r (now (out .entry)) (packetBytes fields (now (body .entry))) ⌝ }
+    ensures { λ r. ⌜ r ≡ writePacket (contents fields (now (body .entry))) (length (now (out .entry))) ⌝ }
+    ensures { λ r. ⌜ now (out .exit) ≡ outAfter r (now (out .entry)) (packetBytes (contents fields (now (body .entry)))) ⌝ }
 {
     let d = body.len() as u64;
     let number = writer_refusal(fields, d);
     if number != 0 {
-        return PacketWrite::Unwritten(refuse(number, 0, 0));
+        return PacketWrite::Unwritten(refuse(number, 0));
     }
     let length = length_for(fields.flags, d) as usize;
     let answer = fit(fields, body, length, out.len());

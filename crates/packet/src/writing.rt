@@ -2,19 +2,19 @@
 ghost use mathlib.Core.Path.{_≡_};
 ghost use Prim.Native.Nat.{_^_, _<_};
 ghost use lib.ListN.{length};
-ghost use Rattle.body.specs.Answers.{checkBody};
-ghost use Rattle.frame.specs.Rules.{messageRule};
+ghost use Rattle.frame.specs.Contents.{contents};
+ghost use Rattle.packet.specs.Read.{contentsChecked};
 ghost use Rattle.packet.specs.Write.{inRange, writerRefusal, fitted};
 use crate::PacketWrite;
 use body::Checked;
 use body::check_body;
-use body::fault;
-use body::refuse;
 use frame::Fields;
 use frame::rules::length_for;
 use frame::rules::message_rule;
 use frame::rules::secondary_time_ok;
 use frame::rules::value_refusal;
+use terms::no_room;
+use terms::placed;
 
 // The first of 17, 5 to 9 and 12 that applies, or 0, for a body of d bytes.
 pub fn writer_refusal(fields: Fields, d: u64) -> u8
@@ -49,15 +49,15 @@ fn in_range(fields: Fields) -> bool
 
 // 15, then 16 for a packet of this length in an output of this room, or its length.
 pub fn fit(fields: Fields, body: &[u8], length: usize, room: usize) -> PacketWrite
-    ensures { λ r. ⌜ r ≡ fitted (checkBody (fields .kind) (messageRule (fields .flags)) (now (body .entry))) length room ⌝ }
+    ensures { λ r. ⌜ r ≡ fitted (contentsChecked (contents fields (now (body .entry)))) length room ⌝ }
 {
     match check_body(body, fields.kind, message_rule(fields.flags)) {
         Checked::Counted(_) => {
             if room < length {
-                return PacketWrite::Unwritten(refuse(16, 0, length));
+                return PacketWrite::Unwritten(no_room(0, length));
             }
             PacketWrite::Written(length)
         }
-        Checked::Faulty(_) => PacketWrite::Unwritten(fault(0)),
+        Checked::Faulty(f) => PacketWrite::Unwritten(placed(f, 0)),
     }
 }

@@ -8,13 +8,15 @@ use lib.ListN.{length, take, drop, replicate, length-append, length-replicate}
 use lib.Seq.{take-append-add, drop-at, length-take-le}
 use lib.Dec.{eqb}
 use borrow.Author.Tests.{eq-eqb, ne-eqb, eqb-true, eqb-false}
-use Rattle.units.specs.Units.{part, splice, bytesOf, checksum, headerSum, secondarySum, dataSum}
+use Rattle.units.specs.Units.{part, splice, bytesOf, checksum}
+use Rattle.frame.specs.Sums.{headerSum, secondarySum, dataSum}
 use Rattle.units.specs.Choice.{pick}
 use Rattle.units.proofs.Numbers.{length-bytesOf}
 use Rattle.units.proofs.Sums.{sum-over}
 use Rattle.units.proofs.Writes.{chain, splice-none, part-splice-same}
 use Rattle.frame.specs.Header.{sync, secondaryBit, secondaryLength, bodyAt, sumCode, sumLength, fillerFor, lengthFor}
 use Rattle.packet_bytes.specs.Bytes.{headWords, headBytes, secondaryWords, secondaryBytes, bodyAndFillerBytes, dataBytes, packetBytes}
+use Rattle.frame.specs.Contents.{Contents}
 use Rattle.frame.specs.declared.Fields.{Fields}
 
 -- ---- a sum over what was written
@@ -154,9 +156,11 @@ data-put f body b₀ b₁ b₂ p at w sum is fits here wide e₁ s e₂ =
 
 -- ---- the packet
 
-pub length-packet : (f : Fields) (body : List ℕ) → length (packetBytes f body) ≡ lengthFor (f .flags) (length body)
+pub length-packet : (c : Contents) → length (packetBytes c) ≡ lengthFor (c .fields .flags) (length (c .body))
 unfolding packetBytes
-length-packet f body =
+length-packet c =
+    let f = c .fields in
+    let body = c .body in
     let h = headBytes f (lengthFor (f .flags) (length body)) (length body) in
     let s = secondaryBytes (f .flags) (f .time) in
     let d = dataBytes (f .flags) body in
@@ -169,13 +173,15 @@ length-packet f body =
       length-data (f .flags) body,
     )
 
-pub packet-put : (f : Fields) (body b₀ b₁ b₂ b₃ : List ℕ) (p : ℕ) → p ≡ lengthFor (f .flags) (length body) → p ≤ length b₀
-    → b₁ ≡ splice b₀ 0 (headBytes f p (length body))
-    → b₂ ≡ splice b₁ 24 (secondaryBytes (f .flags) (f .time))
-    → b₃ ≡ splice b₂ (bodyAt (f .flags)) (dataBytes (f .flags) body)
-    → b₃ ≡ splice b₀ 0 (packetBytes f body)
+pub packet-put : (c : Contents) (b₀ b₁ b₂ b₃ : List ℕ) (p : ℕ) → p ≡ lengthFor (c .fields .flags) (length (c .body)) → p ≤ length b₀
+    → b₁ ≡ splice b₀ 0 (headBytes (c .fields) p (length (c .body)))
+    → b₂ ≡ splice b₁ 24 (secondaryBytes (c .fields .flags) (c .fields .time))
+    → b₃ ≡ splice b₂ (bodyAt (c .fields .flags)) (dataBytes (c .fields .flags) (c .body))
+    → b₃ ≡ splice b₀ 0 (packetBytes c)
 unfolding packetBytes
-packet-put f body b₀ b₁ b₂ b₃ p is fits e₁ e₂ e₃ =
+packet-put c b₀ b₁ b₂ b₃ p is fits e₁ e₂ e₃ =
+    let f = c .fields in
+    let body = c .body in
     let h = headBytes f (lengthFor (f .flags) (length body)) (length body) in
     let s = secondaryBytes (f .flags) (f .time) in
     let d = dataBytes (f .flags) body in

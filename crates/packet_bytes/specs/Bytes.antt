@@ -3,9 +3,11 @@ use mathlib.Core.List.{List, [], _∷_, _++_}
 use Prim.Native.Nat.{ℕ}
 use lib.ListN.{length, replicate}
 use lib.Dec.{eqb}
-use Rattle.units.specs.Units.{bytesOf, headerSum, secondarySum, dataSum}
+use Rattle.units.specs.Units.{bytesOf}
+use Rattle.frame.specs.Sums.{headerSum, secondarySum, dataSum}
 use Rattle.units.specs.Choice.{pick}
-use Rattle.frame.specs.Header.{sync, secondaryBit, sumCode, sumLength, fillerFor, lengthFor}
+use Rattle.frame.specs.Header.{sync, secondaryBit, sumCode, sumLength, fillerFor}
+use Rattle.frame.specs.Contents.{Contents, contentsLength}
 use Rattle.frame.specs.declared.Fields.{Fields}
 
 -- ---- the primary header: eleven words and their sum
@@ -40,8 +42,8 @@ dataBytes f body = bodyAndFillerBytes f body ++ bytesOf (sumLength f) (dataSum (
 
 -- ---- the packet
 
-unfoldable pub packetBytes : Fields → List ℕ → List ℕ
-packetBytes f body =
-    headBytes f (lengthFor (f .flags) (length body)) (length body)
-    ++ secondaryBytes (f .flags) (f .time)
-    ++ dataBytes (f .flags) body
+unfoldable pub packetBytes : Contents → List ℕ
+packetBytes c =
+    headBytes (c .fields) (contentsLength c) (length (c .body))
+    ++ secondaryBytes (c .fields .flags) (c .fields .time)
+    ++ dataBytes (c .fields .flags) (c .body)

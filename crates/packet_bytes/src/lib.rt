@@ -5,26 +5,27 @@ ghost use lib.ListN.{length, replicate};
 ghost use mathlib.Core.List.{_++_, _∷_, []};
 ghost use Rattle.units.specs.Units.{splice};
 ghost use Rattle.frame.specs.Header.{secondaryLength, bodyAt, lengthFor};
+ghost use Rattle.frame.specs.Contents.{contents};
 ghost use Rattle.packet_bytes.specs.Bytes.{headWords, headBytes, secondaryBytes, dataBytes, packetBytes};
 use frame::Fields;
 use frame::head::put_sum;
 use frame::head::put_sync;
 use frame::rules::body_at;
 use frame::rules::sum_length;
+use frame::sums::data_sum;
+use frame::sums::header_sum;
+use frame::sums::secondary_sum;
 use units::clear_at;
 use units::copy_at;
-use units::data_sum;
-use units::header_sum;
 use units::put16;
 use units::put32;
 use units::put48;
 use units::put64;
-use units::secondary_sum;
 
 // Writes a packet of p bytes at the output's first byte.
 pub fn put_packet(out: &mut [u8], fields: Fields, body: &[u8], p: usize)
     requires { ⌜ (p ≡ lengthFor (fields .flags) (length (now body))) × (p ≤ length (now out)) × (p < 2 ^ 32) ⌝ }
-    ensures { λ _. ⌜ now (out .exit) ≡ splice (now (out .entry)) 0 (packetBytes fields (now (body .entry))) ⌝ }
+    ensures { λ _. ⌜ now (out .exit) ≡ splice (now (out .entry)) 0 (packetBytes (contents fields (now (body .entry)))) ⌝ }
 {
     put_header(out, fields, p as u32, body.len() as u32);
     put_secondary(out, fields.flags, fields.time);

@@ -9,7 +9,8 @@ use lib.ListN.{length, take, drop, getD, replicate, length-take, take-append-dro
 use lib.Seq.{length-take-le, drop-cons, take-take, take-add, take-all}
 use lib.Dec.{eqb}
 use borrow.Author.Tests.{eqb-true, eqb-false}
-use Rattle.units.specs.Units.{Bytes, part, num, field, bytesOf, sumUnits, checksum, summed, secondarySum, dataSum}
+use Rattle.units.specs.Units.{Bytes, part, num, field, bytesOf, sumUnits, checksum, summed}
+use Rattle.frame.specs.Sums.{secondarySum, dataSum}
 use Rattle.units.specs.Choice.{pick}
 use Rattle.units.proofs.Numbers.{num-lt, zeros-are}
 use Rattle.units.proofs.Parts.{length-part, bytes-part, part-add, part-part, field-one, bytesOf-field}
@@ -20,17 +21,14 @@ use Rattle.frame.specs.Header.{byte, sync, packetLength, dataLength, flagsIn, k
 use Rattle.frame.specs.Rules.{secondaryTimeOk}
 use Rattle.frame.specs.inner.Lengths.{Sound}
 use Rattle.frame.proofs.Frames.{Framed, framed-says, framed-passes, frame-sound, length-is}
+use Rattle.frame.specs.Contents.{contents, contentsIn, contentsLength}
 use Rattle.packet_bytes.specs.Bytes.{headWords, headBytes, secondaryWords, secondaryBytes, bodyAndFillerBytes, dataBytes, packetBytes}
 use Rattle.packet.specs.Read.{window, packetIn, bodyChecked, readPacket}
 use Rattle.packet.specs.declared.Packet.{Packet}
 use Rattle.packet.specs.declared.PacketRead.the-variants.{Accepted}
 use Rattle.packet.proofs.Own.{accepted-at, accepted-length}
-use Rattle.promises.specs.Contents.{Contents, Typed, packetOf, Accepts, contentsOf}
-use Rattle.promises.proofs.Writer.{lengthIn, Writable, writable-accepts}
-
--- the contents of the packet at the start of a window's bytes w
-abbrev pub contentsIn : List ℕ → Contents
-contentsIn w = record { fields = fieldsIn w; body = bodyIn w }
+use Rattle.promises.specs.Contents.{Typed, Accepts, contentsOf}
+use Rattle.promises.proofs.Writer.{Writable, writable-accepts}
 
 -- ---- parts one behind the other
 
@@ -151,17 +149,17 @@ module _ (w : List ℕ) (b : Bytes w) (f : Framed w) where
       let j : bodyAt (flagsIn w) + n ≡ sumAt w = omega (arith, sound .parts) in
       rw (filled-again, s, bytesOf-field w (sumAt w) k b (omega (arith, sound .parts, sound .there)), m, part-add w (bodyAt (flagsIn w)) n k, j)
 
-  length-told : lengthIn (contentsIn w) ≡ packetLength w
+  length-told : contentsLength (contentsIn w) ≡ packetLength w
   unfolding fieldsIn
   length-told = ap (lengthFor (flagsIn w)) length-body ∙ sym length-again
 
   -- written again it has the same bytes
-  pub again-bytes : packetOf (contentsIn w) ≡ take (packetLength w) w
+  pub again-bytes : packetBytes (contentsIn w) ≡ take (packetLength w) w
   unfolding packetBytes fieldsIn
   again-bytes =
       let n = secondaryLength (flagsIn w) in
       let m = packetLength w - bodyAt (flagsIn w) in
-      let h : headBytes (fieldsIn w) (lengthIn (contentsIn w)) (length (bodyIn w)) ≡ take 24 w =
+      let h : headBytes (fieldsIn w) (contentsLength (contentsIn w)) (length (bodyIn w)) ≡ take 24 w =
       (λ i. headBytes (fieldsIn w) (length-told i) (length-body i)) ∙ head-again in
       let p : bodyAt (flagsIn w) + m ≡ packetLength w = omega (arith, sound .parts) in
       let t : take 24 w ++ secondaryIn w ++ part w (bodyAt (flagsIn w)) m ≡ take (bodyAt (flagsIn w) + m) w =
@@ -206,11 +204,11 @@ contents-there buf s e k r =
     let w = window buf s e in
     let p : bodyIn w ≡ part buf (s + bodyAt (flagsIn w)) (dataLength w) =
     part-part buf s (e - s) (bodyAt (flagsIn w)) (dataLength w) (omega (arith, k .parts, k .there)) in
-    λ i. record { fields = fieldsIn w; body = sym p i }
+    ap (contents (fieldsIn w)) (sym p)
 
 -- the writer accepts what was read, and writes the bytes that were read
 pub read-again : (buf : List ℕ) (s e : ℕ) (p : Packet) → Bytes buf → readPacket buf s e ≡ Accepted p
-    → Accepts (contentsOf buf p) × (packetOf (contentsOf buf p) ≡ part buf s (p .length))
+    → Accepts (contentsOf buf p) × (packetBytes (contentsOf buf p) ≡ part buf s (p .length))
 read-again buf s e p b h =
     let a = accepted-at buf s e p h in
     let w = window buf s e in
@@ -222,5 +220,5 @@ read-again buf s e p b h =
     let t : take (packetLength w) w ≡ part buf s (packetLength w) =
     take-take (packetLength w) (e - s) (drop s buf) (omega (arith, k .there, a .opens .reach)) in (
       subst Accepts (sym c) (writable-accepts (contentsIn w) (again-typed w bw f) (again-right w bw f (a .count) (a .body))),
-      ap packetOf c ∙ again-bytes w bw f ∙ t ∙ ap (part buf s) (sym n),
+      ap packetBytes c ∙ again-bytes w bw f ∙ t ∙ ap (part buf s) (sym n),
     )

@@ -8,7 +8,8 @@ use native.Mathlib.Omega.{arith}
 use native.Mathlib.Decide.{decLt}
 use lib.ListN.{length, take, drop, length-drop, take-append-drop}
 use lib.Seq.{take-at, length-take-le, drop-drop, getD-take, getD-drop, ext-getD}
-use Rattle.units.specs.Units.{Bytes, part, splice, sumWidth, Changed}
+use Rattle.units.specs.Units.{Bytes, part, splice, Changed}
+use Rattle.frame.specs.Sums.{sumWidth}
 use Rattle.units.proofs.Numbers.{bytes-append, bytes-take, bytes-drop}
 use Rattle.units.proofs.Writes.{length-splice, drop-splice, part-splice-before}
 use Rattle.units.proofs.Parts.{length-part, bytes-part}
@@ -16,9 +17,11 @@ use Rattle.frame.specs.Header.{byte, packetLength, flagsIn, fieldsIn, sumLength
 use Rattle.frame.specs.declared.Fields.{Fields}
 use Rattle.frame.specs.Table.{first, frameLines}
 use Rattle.frame.proofs.Frames.{Framed, framed-says, framed-passes, flags-front, packet-length-front, frame-front, OfFront}
-use Rattle.promises.specs.Contents.{Contents, Typed, packetOf, Accepts}
+use Rattle.frame.specs.Contents.{Contents, contentsLength}
+use Rattle.packet_bytes.specs.Bytes.{packetBytes}
+use Rattle.promises.specs.Contents.{Typed, Accepts}
 use Rattle.promises.specs.Altered.{flagsOf, UnitOf, sync, primary, secondary, trailer, AlteredAt, Altered}
-use Rattle.promises.proofs.Writer.{lengthIn, length-of, accepts-writable}
+use Rattle.promises.proofs.Writer.{length-of, accepts-writable}
 use Rattle.promises.proofs.Written.{written-bytes, written-length, written-fields, written-framed, written-sound}
 use Rattle.promises.proofs.Spoilt.{sync-refused, primary-refused, secondary-refused, trailer-refused}
 
@@ -76,7 +79,7 @@ changed-front at n xs ys t c =
       differs = c .differs;
     }
 
-unit-room : (c : Contents) (n at width : ℕ) → UnitOf c n at width → at + width ≤ length (packetOf c)
+unit-room : (c : Contents) (n at width : ℕ) → UnitOf c n at width → at + width ≤ length (packetBytes c)
 unit-room c n at width sync = omega (arith, length-of c)
 unit-room c n _ width (primary j some most) = omega (arith, length-of c)
 unit-room c n _ width (secondary j most) = omega (arith, length-of c)
@@ -84,15 +87,15 @@ unit-room c n _ width (trailer j some most) = most
 
 module _ (c : Contents) (a : Accepts c) (rest : List ℕ) where
   abbrev whole : List ℕ
-  whole = packetOf c ++ rest
+  whole = packetBytes c ++ rest
 
   -- what is said of the packet alone
-  front : {A : Type 0} (said : List ℕ → A) → OfFront said → said whole ≡ said (packetOf c)
+  front : {A : Type 0} (said : List ℕ → A) → OfFront said → said whole ≡ said (packetBytes c)
   front said law =
       let s = written-sound c (a .typed) (accepts-writable c a) in
-      law (packetOf c) rest (s .header) (s .there) (s .parts)
+      law (packetBytes c) rest (s .header) (s .there) (s .parts)
 
-  length-in : packetLength whole ≡ length (packetOf c)
+  length-in : packetLength whole ≡ length (packetBytes c)
   length-in = front packetLength packet-length-front ∙ written-length c (a .typed) (accepts-writable c a) ∙ sym (length-of c)
 
   flags-in : flagsIn whole ≡ flagsOf c
@@ -101,10 +104,10 @@ module _ (c : Contents) (a : Accepts c) (rest : List ℕ) where
 
   framed-in : Framed whole
   framed-in =
-      framed-says whole (ap first (front frameLines frame-front) ∙ framed-passes (packetOf c) (written-framed c (a .typed) (accepts-writable c a)))
+      framed-says whole (ap first (front frameLines frame-front) ∙ framed-passes (packetBytes c) (written-framed c (a .typed) (accepts-writable c a)))
 
   bytes-in : Bytes (take (packetLength whole) whole)
-  bytes-in = rw (length-in, take-at (packetOf c) rest (length (packetOf c)) refl) (written-bytes c (a .typed))
+  bytes-in = rw (length-in, take-at (packetBytes c) rest (length (packetBytes c)) refl) (written-bytes c (a .typed))
 
   unit-refused : (n at width : ℕ) (v : List ℕ) → UnitOf c n at width → Changed at width whole v → first (frameLines v) ≡ n
   unit-refused n at width v sync ch = sync-refused whole v bytes-in framed-in ch
@@ -116,8 +119,8 @@ module _ (c : Contents) (a : Accepts c) (rest : List ℕ) where
   -- whatever stands behind it
   pub altered-refused : (n : ℕ) (ys : List ℕ) → Altered c n ys → first (frameLines (ys ++ rest)) ≡ n
   altered-refused n ys h =
-      let ch = changed-at (h .place) (h .width) (packetOf c) ys (unit-room c n (h .place) (h .width) (h .unit)) (h .change) in
-      unit-refused n (h .place) (h .width) (ys ++ rest) (h .unit) (changed-front (h .place) (h .width) (packetOf c) ys rest ch)
+      let ch = changed-at (h .place) (h .width) (packetBytes c) ys (unit-room c n (h .place) (h .width) (h .unit)) (h .change) in
+      unit-refused n (h .place) (h .width) (ys ++ rest) (h .unit) (changed-front (h .place) (h .width) (packetBytes c) ys rest ch)
 
 -- ---- no change of a unit is left out
 
@@ -148,13 +151,13 @@ spliced xs at new room old-bytes new-bytes other =
         ∙ getD-drop (at + length new) xs (i - (at + length new)) 0)
 
 pub change-named : (c : Contents) → Typed c → (n at width : ℕ) → UnitOf c n at width → (new : List ℕ) → length new ≡ width → Bytes new
-    → splice (packetOf c) at new ≢ packetOf c → Altered c n (splice (packetOf c) at new)
+    → splice (packetBytes c) at new ≢ packetBytes c → Altered c n (splice (packetBytes c) at new)
 change-named c t n at width u new long new-bytes other =
     record {
       place = at;
       width = width;
       unit = u;
-      change = rw (← long) (spliced (packetOf c) at new (omega (arith, unit-room c n at width u)) (written-bytes c t) new-bytes other);
+      change = rw (← long) (spliced (packetBytes c) at new (omega (arith, unit-room c n at width u)) (written-bytes c t) new-bytes other);
     }
 
 -- ---- no byte is left out
@@ -168,7 +171,7 @@ unit-of (suc (suc zero)) b p i some fb fp from upto = ((i - b) / 2, omega arith,
 unit-of (suc (suc (suc n))) b p i some fb fp from upto = ((i - b) / 4, omega arith, omega arith, omega arith)
 
 -- each byte of both headers, and of body, filler and sum where a data sum is carried, lies in one of the units named
-pub every-byte-named : (c : Contents) (i : ℕ) → i < length (packetOf c) → (i < bodyAt (flagsOf c)) ⊎ (0 < sumLength (flagsOf c))
+pub every-byte-named : (c : Contents) (i : ℕ) → i < length (packetBytes c) → (i < bodyAt (flagsOf c)) ⊎ (0 < sumLength (flagsOf c))
     → (n : ℕ) × (at : ℕ) × (width : ℕ) × UnitOf c n at width × (at ≤ i) × (i < at + width)
 every-byte-named c i within h = go (decLt i 2) (decLt i 24) (decLt i (bodyAt (flagsOf c))) h
   where
@@ -182,5 +185,5 @@ every-byte-named c i within h = go (decLt i 2) (decLt i 24) (decLt i (bodyAt (fl
         let width = sumLength (flagsOf c) in
         let body = bodyAt (flagsOf c) in
         let (j, from, upto, room) =
-        unit-of (flagsOf c % 4) body (lengthIn c) i some (omega arith) (omega arith) (omega arith) (omega (arith, length-of c)) in
+        unit-of (flagsOf c % 4) body (contentsLength c) i some (omega arith) (omega arith) (omega arith) (omega (arith, length-of c)) in
         (13, body + width * j, width, trailer j some (omega (arith, length-of c)), from, upto)

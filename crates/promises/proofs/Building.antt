@@ -1,15 +1,17 @@
 -- The builder's steps answer as document 01 says: each of the builder's tests says what its words say.
-use mathlib.Core.Path.{_≡_, refl}
+use mathlib.Core.Path.{_≡_, refl, ap}
 use mathlib.Core.Bool.{Bool, true, false, _&&_, _||_}
 use mathlib.Core.Logic.{inl, inr, ⊎-elim}
-use Prim.Native.Nat.{ℕ, zero, suc, _%_, _^_, _<_}
+use Prim.Native.Nat.{ℕ, zero, suc, _+_, _%_, _^_, _<_}
 use native.Mathlib.Omega.{arith}
 use native.Mathlib.Nat.{mod-eq-of-lt}
 use lib.Dec.{ltb, leb, eqb}
 use borrow.Author.Tests.{eqb-true, eq-eqb, ne-eqb, ltb-true, lt-ltb, le-ltb, lt-leb}
+use Rattle.units.specs.Choice.{pick}
 use Rattle.units.proofs.Choices.{or-true, and-true}
-use Rattle.body.specs.Times.{timeOk, ruleOf}
+use Rattle.terms.specs.Times.{timeOk, ruleOf}
 use Rattle.body.specs.Walk.{stampLength}
+use Rattle.body.specs.declared.Form.the-variants.{Stamped, Plain}
 use Rattle.builder.specs.Build.{stamped, counts, makes, badDraft, openStep, badBlock, badTime, strayTime, grown, draftAdded, addStep, closeStep}
 use Rattle.builder.specs.declared.Draft.{Draft}
 use Rattle.builder.proofs.Drafts.{draft-facts, draft-good, block-facts}
@@ -41,26 +43,33 @@ makes-made : (kind rule : ℕ) → Opens kind rule → makes kind rule ≡ true
 makes-made kind rule (inl (k, some, few)) = rw (k, lt-ltb 0 rule some, lt-ltb rule 5 (omega arith))
 makes-made kind rule (inr (k, few)) = rw (k, lt-ltb rule 5 (omega arith))
 
+-- the types whose blocks are counted
+counts-says : (kind : ℕ) → counts kind ≡ true → kind ≡ 0x30
+counts-says kind = eqb-true kind 0x30
+
+counts-made : (kind : ℕ) → kind ≡ 0x30 → counts kind ≡ true
+counts-made kind = eq-eqb kind 0x30
+
 -- 1
 draft-says : (d : Draft) (len : ℕ) → badDraft d len ≡ false → SoundDraft d len
 draft-says d len e =
     let o = draft-facts d len e in
-    record { within = o .0; word = o .1; opens = makes-says (d .kind) (d .rule) (o .2); few = o .3 }
+    record { within = o .0; word = o .1; opens = makes-says (d .kind) (d .rule) (o .2); few = λ k. o .3 (counts-made (d .kind) k) }
 
 draft-made : (d : Draft) (len : ℕ) → SoundDraft d len → badDraft d len ≡ false
-draft-made d len s = draft-good d len (s .within) (s .word) (makes-made (d .kind) (d .rule) (s .opens)) (s .few)
+draft-made d len s = draft-good d len (s .within) (s .word) (makes-made (d .kind) (d .rule) (s .opens)) (λ t. s .few (counts-says (d .kind) t))
 
 -- 17
 block-says : (d : Draft) (n : ℕ) → badBlock d n ≡ false → Takes d n
 block-says d n e =
     let o = block-facts d n e in
-    record { some = o .0; most = omega (arith, o .1); few = o .2 }
+    record { some = o .0; most = omega (arith, o .1); few = λ k. o .2 (counts-made (d .kind) k) }
 
 block-made : (d : Draft) (n : ℕ) → Takes d n → badBlock d n ≡ false
-block-made d n t = rw (ne-eqb n 0 (λ z. omega (arith, t .some)), le-ltb 65535 n (t .most)) (go (eqb (d .kind) 0x30) refl)
+block-made d n t = rw (ne-eqb n 0 (λ z. omega (arith, t .some)), le-ltb 65535 n (t .most)) (go (counts (d .kind)) refl)
   where
     go : (b : Bool) → counts (d .kind) ≡ b → (b && leb 65535 (d .blocks)) ≡ false
-    go true e = lt-leb 65535 (d .blocks) (t .few (eqb-true (d .kind) 0x30 e))
+    go true e = lt-leb 65535 (d .blocks) (t .few (counts-says (d .kind) e))
     go false e = refl
 
 -- 15
@@ -98,10 +107,19 @@ stray-passes : (rule time : ℕ) → (rule ≡ 0 → time ≡ 0) → strayTime r
 stray-passes zero time none = rw (none refl)
 stray-passes (suc rule) time none = rw (lt-ltb 0 (suc rule) (omega arith))
 
+-- the used count with a block more
+grown-is : (d : Draft) (n : ℕ) → grown d n ≡ grownTo d n
+unfolding grown stampLength
+grown-is d n = ap (λ (stamp : ℕ). d .used + (stamp + 4 + n + n % 2)) (go (stamped (d .rule)))
+  where
+    go : (t : Bool) → stampLength (pick t Stamped Plain) ≡ pick t 8 0
+    go true = refl
+    go false = refl
+
 -- ---- the steps
 
 pub building : Building
-unfolding openStep addStep closeStep draftAdded grown stampLength
+unfolding openStep addStep closeStep draftAdded
 building =
     record {
       open-17 = λ d kind rule len n. rw (unmet (makes kind rule) (makes-says kind rule) n);
@@ -113,7 +131,7 @@ building =
       add-stray = λ d len time n s t none stray. rw (draft-made d len s, block-made d n t, none, ne-eqb time 0 stray);
       add-16 =
           λ d len time n s t f none short.
-          rw (draft-made d len s, block-made d n t, time-passes (d .rule) time f, stray-passes (d .rule) time none, lt-ltb len (grownTo d n) short);
+          rw (draft-made d len s, block-made d n t, time-passes (d .rule) time f, stray-passes (d .rule) time none, grown-is d n, lt-ltb len (grownTo d n) short);
       adds =
           λ d len time n fits s t f none room.
           rw (
@@ -121,6 +139,7 @@ building =
             block-made d n t,
             time-passes (d .rule) time f,
             stray-passes (d .rule) time none,
+            grown-is d n,
             le-ltb len (grownTo d n) room,
             mod-eq-of-lt fits,
           );

@@ -6,10 +6,12 @@ use Prim.Native.Nat.{ℕ, _+_, _≤_}
 use native.Mathlib.Omega.{arith}
 use lib.ListN.{length}
 use Rattle.units.specs.Units.{part}
+use Rattle.terms.specs.declared.Refusal.{Refusal}
 use Rattle.builder.specs.Build.{bufAfter, stepTold}
 use Rattle.builder.specs.declared.Step.{Step}
 use Rattle.builder.specs.declared.Step.the-variants.{Done, Denied}
-use Rattle.packet.specs.Read.{window, readPacket, noRefusal, packetTold}
+use Rattle.packet.specs.Read.{window, readPacket, packetTold}
+use Rattle.terms.specs.Refusals.{noRefusal}
 use Rattle.packet.specs.Messages.{listPacket, listAfter, starts, lengths, listTold, messageTold}
 use Rattle.packet.specs.Write.{outAfter, writeTold}
 use Rattle.packet.specs.declared.Packet.{Packet}
@@ -21,10 +23,12 @@ use Rattle.packet.proofs.Window.{entries-kept, count-fits, length-after, read-w
 use Rattle.packet.proofs.Own.{own-read, own-list, own-message, own-entries}
 use Rattle.recording.specs.Reading.{Reading, reading, readRecording}
 use Rattle.recording.specs.Handed.{HandsOut}
-use Rattle.recording.proofs.HandedOut.{hands-out, hands-out-once, recording-numbered, reading-window, recording-window}
-use Rattle.promises.specs.Endings.{readTold}
+use Rattle.recording.proofs.HandedOut.{hands-out, hands-out-once, reading-window, recording-window}
+use Rattle.promises.specs.Refusals.{readerRefusals}
+use Rattle.promises.specs.Endings.{FromTable, readTold}
 use Rattle.promises.specs.Demand1.{Alike, ListKept, Demand1}
-use Rattle.promises.proofs.Ends.{above, accepted-is, read-ends, read-placed, list-ends, message-ends}
+use Rattle.promises.proofs.Refusing.{read-numbered}
+use Rattle.promises.proofs.Ends.{accepted-is, read-ends, read-placed, list-ends, message-ends}
 
 -- ---- the window
 
@@ -57,6 +61,11 @@ own-behind a b start end end′ p is reaches in-b same =
       message = λ k. ap messageTold (own-message a b start end end′ p accepted reaches in-b same k);
     }
 
+-- ---- a recording's refusal is the reader's
+
+recording-numbered : (buf : List ℕ) (at end : ℕ) (r : Refusal) → packetTold (readPacket buf at end) .refusal ≡ r → r .number ≢ 0 → FromTable readerRefusals r
+recording-numbered buf at end r q some = rw q at (read-numbered buf at end (rw q some))
+
 -- ---- lent memory
 
 both-kept : (buf : List ℕ) (start end : ℕ) (starts₀ lengths₀ : List ℕ)
@@ -80,7 +89,7 @@ unfolding outAfter
 output-same (Written n) h old bytes = absurd (h refl)
 output-same (Unwritten r) h old bytes = refl
 
-buffer-same : (r : Step) → stepTold r .number ≢ 0 → (old : List ℕ) (at : ℕ) (bytes : List ℕ) → bufAfter r old at bytes ≡ old
+buffer-same : (r : Step) → stepTold r .refusal .number ≢ 0 → (old : List ℕ) (at : ℕ) (bytes : List ℕ) → bufAfter r old at bytes ≡ old
 unfolding bufAfter
 buffer-same (Done d) h old at bytes = absurd (h refl)
 buffer-same (Denied r d) h old at bytes = refl
@@ -93,7 +102,7 @@ demand-1 =
       list-ends = list-ends;
       message-ends = message-ends;
       recording-ends =
-          λ buf start end. ⊎-elim inl (λ h. inr (h .0, (above _ (h .1), recording-numbered buf start end))) (hands-out buf start end .ends);
+          λ buf start end. ⊎-elim inl (λ h. inr (h .0, recording-numbered buf _ end _ (h .0) (h .1))) (hands-out buf start end .ends);
       nothing-outside = outside;
       nothing-outside-recording = recording-window;
       nothing-outside-handed = handed-alike;

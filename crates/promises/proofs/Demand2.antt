@@ -1,32 +1,34 @@
 -- Demand 2 holds.
 use mathlib.Core.Path.{_≡_, refl, sym, ap, subst, _∙_}
-use mathlib.Core.Bool.{Bool}
 use mathlib.Core.List.{List, _++_}
 use Prim.Native.Nat.{ℕ, _+_, _≤_}
 use native.Mathlib.Omega.{arith}
 use lib.ListN.{length, take}
 use lib.Seq.{take-at}
-use borrow.Author.Tests.{ne-eqb}
 use Rattle.units.specs.Units.{Bytes, part}
 use Rattle.units.proofs.Parts.{length-part, part-add, field-add}
+use Rattle.body.specs.declared.Form.{Form}
 use Rattle.frame.specs.Header.{flagsIn, kindIn, bodyIn, fieldsIn}
 use Rattle.frame.proofs.Stages.{the-time, no-time}
 use Rattle.body.specs.Walk.{opens}
-use Rattle.packet.specs.Read.{window, packetIn, readPacket, Together, noRefusal, packetTold}
+use Rattle.packet.specs.Read.{window, packetIn, readPacket, Together, packetTold}
+use Rattle.terms.specs.Refusals.{noRefusal}
+use Rattle.frame.specs.Contents.{Contents, contentsLength}
+use Rattle.packet_bytes.specs.Bytes.{packetBytes}
 use Rattle.packet.specs.Write.{writePacket, outAfter, WriteTold, writeTold}
 use Rattle.packet.specs.declared.Packet.{Packet}
 use Rattle.packet.specs.declared.PacketWrite.{PacketWrite}
 use Rattle.packet.specs.declared.PacketWrite.the-variants.{Written}
 use Rattle.packet.proofs.Own.{accepted-at, accepted-fits, together}
-use Rattle.promises.specs.Contents.{Contents, Typed, packetOf, outputOf, contentsOf}
+use Rattle.promises.specs.Contents.{Typed, outputOf, contentsOf}
 use Rattle.promises.specs.Endings.{readTold, writtenTold}
 use Rattle.promises.specs.Reports.{PacketThere, Reports}
 use Rattle.promises.specs.Demand2.{bytesIn, Demand2}
 use Rattle.promises.proofs.Ends.{accepted-is}
-use Rattle.promises.proofs.Writer.{lengthIn, Writable, written-says, writable-written, writable-accepts, accepts-writable, length-of}
+use Rattle.promises.proofs.Writer.{Writable, written-says, writable-written, writable-accepts, accepts-writable, length-of}
 use Rattle.promises.proofs.Written.{read-written}
 use Rattle.promises.proofs.Again.{read-again}
-use Rattle.promises.proofs.BodiesKept.{opens-exactly, body-kept, kept-stamped}
+use Rattle.promises.proofs.BodiesKept.{opens-exactly, carries, body-kept, kept-form}
 use Rattle.promises.proofs.Keeping.{accepted-exactly}
 use Rattle.promises.proofs.Reported.{messages-there, carried-none}
 
@@ -82,32 +84,32 @@ packet-there-is w at =
 -- ---- what is written
 
 -- the output after a packet is written begins with its bytes
-output-begins : (c : Contents) (out : List ℕ) → take (lengthIn c) (outAfter (Written (lengthIn c)) out (packetOf c)) ≡ packetOf c
+output-begins : (c : Contents) (out : List ℕ) → take (contentsLength c) (outAfter (Written (contentsLength c)) out (packetBytes c)) ≡ packetBytes c
 unfolding outAfter
-output-begins c out = take-at (packetOf c) _ (lengthIn c) (length-of c)
+output-begins c out = take-at (packetBytes c) _ (contentsLength c) (length-of c)
 
 -- contents that the rules have nothing against, into an output with room
-writes : (c : Contents) (out : List ℕ) → Writable c → lengthIn c ≤ length out
-    → (writeTold (writePacket (c .fields) (c .body) (length out)) ≡ writtenTold noRefusal (lengthIn c)) × (take (lengthIn c) (outputOf c out) ≡ packetOf c)
+writes : (c : Contents) (out : List ℕ) → Writable c → contentsLength c ≤ length out
+    → (writeTold (writePacket c (length out)) ≡ writtenTold noRefusal (contentsLength c)) × (take (contentsLength c) (outputOf c out) ≡ packetBytes c)
 writes c out r room =
     let w = writable-written c (length out) r room in
-    (ap writeTold w, ap (λ (x : PacketWrite). take (lengthIn c) (outAfter x out (packetOf c))) w ∙ output-begins c out)
+    (ap writeTold w, ap (λ (x : PacketWrite). take (contentsLength c) (outAfter x out (packetBytes c))) w ∙ output-begins c out)
 
-reads-back : (c : Contents) → Typed c → (out : List ℕ) (n : ℕ) → writeTold (writePacket (c .fields) (c .body) (length out)) ≡ writtenTold noRefusal n
+reads-back : (c : Contents) → Typed c → (out : List ℕ) (n : ℕ) → writeTold (writePacket c (length out)) ≡ writtenTold noRefusal n
     → (buf : List ℕ) (start end : ℕ) → end ≤ length buf → start + n ≤ end → part buf start n ≡ take n (outputOf c out)
     → (p : Packet) × (packetTold (readPacket buf start end) ≡ readTold noRefusal p) × (contentsOf buf p ≡ c) × (p .length ≡ n)
 reads-back c typed out n is buf start end within fits same =
     let (r, room) = written-says c (length out) (ap (λ (t : WriteTold). t .refusal .number) is) in
     let w = writes c out r room in
-    let long : n ≡ length (packetOf c) = sym (ap (λ (t : WriteTold). t .length) is) ∙ ap (λ (t : WriteTold). t .length) (w .0) ∙ sym (length-of c) in
-    let there : part buf start (length (packetOf c)) ≡ packetOf c =
+    let long : n ≡ length (packetBytes c) = sym (ap (λ (t : WriteTold). t .length) is) ∙ ap (λ (t : WriteTold). t .length) (w .0) ∙ sym (length-of c) in
+    let there : part buf start (length (packetBytes c)) ≡ packetBytes c =
     rw long at same ∙ ap (λ (k : ℕ). take k (outputOf c out)) (length-of c) ∙ w .1 in
     let (p, accepted, contents, length) = read-written c (writable-accepts c typed r) buf start end within (omega arith) there in
     (p, ap packetTold accepted, contents, length ∙ sym long)
 
 again : (buf : List ℕ) → Bytes buf → (start end : ℕ) (p : Packet) → packetTold (readPacket buf start end) ≡ readTold noRefusal p
     → (out : List ℕ) → p .length ≤ length out
-    → (writeTold (writePacket (p .fields) (bytesIn buf (p .body)) (length out)) ≡ writtenTold noRefusal (p .length))
+    → (writeTold (writePacket (contentsOf buf p) (length out)) ≡ writtenTold noRefusal (p .length))
     × (take (p .length) (outputOf (contentsOf buf p) out) ≡ part buf start (p .length))
 again buf raw start end p is out room =
     let accepted = accepted-is buf start end p is in
@@ -115,7 +117,7 @@ again buf raw start end p is out room =
     let (a, same) = read-again buf start end p raw accepted in
     let inside : start + p .length ≤ length buf =
     omega (arith, accepted-fits buf start end p accepted .within, accepted-at buf start end p accepted .opens .within) in
-    let long : lengthIn c ≡ p .length = sym (length-of c) ∙ ap length same ∙ length-part buf start (p .length) inside in
+    let long : contentsLength c ≡ p .length = sym (length-of c) ∙ ap length same ∙ length-part buf start (p .length) inside in
     let w = writes c out (accepts-writable c a) (omega arith) in
     (rw (← long) (w .0), rw (← long) (w .1) ∙ same)
 
@@ -133,11 +135,10 @@ demand-2 =
           let w = window buf start end in
           let o = opens-exactly (kindIn w) .1 kind in
           let (es, b, reports) = messages-there buf start end p raw (accepted-is buf start end p is) o in
-          let same = sym (kept-stamped (kindIn w) (flagsIn w) (bodyIn w) es o b) in
-          (es, body-kept (kindIn w) (flagsIn w) (bodyIn w) es o .0 b, subst (λ (t : Bool). Reports buf start end es t) same reports);
+          let same = sym (kept-form (kindIn w) (flagsIn w) (bodyIn w) es o b) in
+          (es, body-kept (kindIn w) (flagsIn w) (bodyIn w) es o .0 b, subst (λ (form : Form). Reports buf start end es form) same reports);
       carried-none =
-          λ buf start end p is message uart.
-          carried-none buf start end p (accepted-is buf start end p is) (rw (ne-eqb _ 0x30 message, ne-eqb _ 0x50 uart));
+          λ buf start end p is other. carried-none buf start end p (accepted-is buf start end p is) (carries (kindIn (window buf start end)) other);
       written-reads-back = reads-back;
       written-again = again;
     }

@@ -7,11 +7,13 @@ use native.Mathlib.Omega.{arith}
 use native.Mathlib.Nat.{sub-zero, zero-add, suc-add}
 use lib.ListN.{length, take, drop}
 use lib.Seq.{take-at, drop-at, take-length}
-use Rattle.body.specs.Walk.{refused}
-use Rattle.packet.specs.Read.{window, noRefusal}
+use Rattle.terms.specs.Refusals.{refused, noRefusal}
+use Rattle.packet.specs.Read.{window}
+use Rattle.frame.specs.Contents.{Contents}
+use Rattle.packet_bytes.specs.Bytes.{packetBytes}
 use Rattle.recording.specs.declared.Recording.{Recording}
 use Rattle.recording.proofs.HandedOut.{hands-out-once}
-use Rattle.promises.specs.Contents.{Contents, packetOf, Accepts, AllAccepted, nil, cons, written, contentsOf}
+use Rattle.promises.specs.Contents.{Accepts, AllAccepted, nil, cons, written, contentsOf}
 use Rattle.promises.specs.Altered.{Altered, Pieces, none, intact, altered, FirstAltered}
 use Rattle.promises.specs.ReadsAs.{ReadsAs}
 use Rattle.promises.specs.Demand3.{Demand3}
@@ -60,27 +62,27 @@ one-is-first (intact {c} {cs} {k} {bs} a p) some =
       written-before = cons a (f .written-before);
       writable = f .writable;
       alteration = f .alteration;
-      bytes = ap (λ (l : List ℕ). packetOf c ++ l) (f .bytes) ∙ sym (append-assoc (packetOf c) (written (f .before)) (f .found ++ f .rest));
+      bytes = ap (λ (l : List ℕ). packetBytes c ++ l) (f .bytes) ∙ sym (append-assoc (packetBytes c) (written (f .before)) (f .found ++ f .rest));
     }
 one-is-first (altered {c} {n} {ys} {cs} {k} {bs} a h p) some =
     record { before = []; first = c; behind = cs; number = n; found = ys; rest = bs; list = refl; written-before = nil; writable = a; alteration = h; bytes = refl }
 
 stops : (before : List Contents) → AllAccepted before → (c : Contents) → Accepts c → (n : ℕ) (ys : List ℕ) → Altered c n ys
     → (rest buf : List ℕ) (start end : ℕ) → start ≤ end → end ≤ length buf → window buf start end ≡ written before ++ (ys ++ rest)
-    → ReadsAs buf start end before (start + length (written before)) (refused n (start + length (written before)) 0)
+    → ReadsAs buf start end before (start + length (written before)) (refused n (start + length (written before)))
 stops before good c a n ys h rest buf start end order within holds =
     reads-to-altered buf end within start order before good (ys ++ rest) holds c a n ys rest h refl
 
 untouched : {cs : List Contents} {bs : List ℕ} → Pieces cs 0 bs → AllAccepted cs × (bs ≡ written cs)
 unfolding written
 untouched none = (nil, refl)
-untouched (intact {c} a p) = let (good, same) = untouched p in (cons a good, ap (λ (l : List ℕ). packetOf c ++ l) same)
+untouched (intact {c} a p) = let (good, same) = untouched p in (cons a good, ap (λ (l : List ℕ). packetBytes c ++ l) same)
 
 first-once : (cs : List Contents) (bs : List ℕ) (f g : FirstAltered cs bs)
     → (f .before ≡ g .before) × (f .first ≡ g .first) × (f .behind ≡ g .behind) × (f .number ≡ g .number)
 first-once cs bs f g =
     let reads : (h : FirstAltered cs bs)
-    → ReadsAs bs 0 (length bs) (h .before) (0 + length (written (h .before))) (refused (h .number) (0 + length (written (h .before))) 0) =
+    → ReadsAs bs 0 (length bs) (h .before) (0 + length (written (h .before))) (refused (h .number) (0 + length (written (h .before)))) =
     λ h. stops (h .before) (h .written-before) (h .first) (h .writable) (h .number) (h .found) (h .alteration) (h .rest) bs 0 (length bs)
     (omega arith) (omega arith) (rw (sub-zero (length bs)) (take-length bs) ∙ h .bytes) in
     let e = sym (reads f .answer) ∙ reads g .answer in
@@ -101,7 +103,7 @@ any-altered : (cs ds : List Contents) (j k : ℕ) (xs zs : List ℕ) → Pieces 
     → Pieces ds k zs → Pieces (cs ++ (c ∷ ds)) (j + suc k) (xs ++ (ys ++ zs))
 any-altered _ ds _ k _ zs none c a n ys h q = rw (zero-add (suc k)) (altered a h q)
 any-altered _ ds _ k _ zs (intact {c = d} {cs = cs} {k = j} {bs = bs} b p) c a n ys h q =
-    rw (append-assoc (packetOf d) bs (ys ++ zs)) (intact b (any-altered cs ds j k bs zs p c a n ys h q))
+    rw (append-assoc (packetBytes d) bs (ys ++ zs)) (intact b (any-altered cs ds j k bs zs p c a n ys h q))
 any-altered _ ds _ k _ zs (altered {c = d} {n = m} {ys = vs} {cs = cs} {k = j} {bs = bs} b g p) c a n ys h q =
     rw (suc-add j (suc k), append-assoc vs bs (ys ++ zs)) (altered b g (any-altered cs ds j k bs zs p c a n ys h q))
 

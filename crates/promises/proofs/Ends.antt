@@ -1,41 +1,36 @@
 -- How each call ends: with what was asked for, or with one refusal from the table, whose place is fixed.
-use mathlib.Core.Path.{_≡_, refl, sym, ap, _∙_}
-use mathlib.Core.List.{List}
-use mathlib.Core.Bool.{Bool, true, false, not}
+use mathlib.Core.Path.{_≡_, refl, ap, _∙_}
+use mathlib.Core.List.{List, [], _∷_}
+use mathlib.Core.Bool.{Bool, true, false, not, false≢true}
 use mathlib.Core.Logic.{_⊎_, inl, inr, _≢_}
-use Prim.Native.Nat.{ℕ, _+_, _-_, _≤_, _<_}
+use Prim.Native.Nat.{ℕ, _+_, _-_, min}
 use native.Mathlib.Omega.{arith}
-use native.Mathlib.Nat.{eq-zero-or-pos}
-use lib.Dec.{eqb}
+use lib.Dec.{eqb, ltb, leb}
 use borrow.Author.Tests.{eqb-true}
 use Rattle.units.specs.Choice.{pick}
 use Rattle.units.specs.Units.{Bytes}
 use Rattle.units.proofs.Parts.{bytes-part}
-use Rattle.body.specs.Walk.{refused, fault}
+use Rattle.terms.specs.Refusals.{refused, needing, noRefusal, moved}
 use Rattle.body.specs.Answers.{noMessage}
-use Rattle.body.specs.declared.Refusal.{Refusal}
+use Rattle.terms.specs.declared.Refusal.{Refusal}
+use Rattle.body.specs.declared.Message.{Message}
 use Rattle.body.specs.declared.Checked.{Checked}
 use Rattle.body.specs.declared.Checked.the-variants.{Counted, Faulty}
 use Rattle.body.proofs.Faults.{fault-at}
-use Rattle.frame.specs.Header.{flagsIn, dataLength, bodyAt, bodyIn}
-use Rattle.packet.specs.Read.{window, outerRefusal, bodyChecked, bodyAnswer, readPacket, noRefusal, noPacket, PacketTold, packetTold}
-use Rattle.packet.specs.Messages.{listPacket, listTold, messagePacket, messageTold}
+use Rattle.frame.specs.Header.{flagsIn, dataLength, bodyAt, bodyIn, fieldsIn}
+use Rattle.packet.specs.Read.{window, outerRefusal, bodyChecked, bodyAnswer, readPacket, noPacket, PacketTold, packetTold, outerLines}
+use Rattle.packet.specs.Messages.{listPacket, listTold, messagePacket, messageTold, messageCount, kthMessage, listAnswer, messageAnswer}
+use Rattle.frame.specs.Table.{headLines, valueLines, wholeLines, secondaryLines, trailerLines, frameLines}
 use Rattle.packet.specs.declared.Packet.{Packet}
 use Rattle.packet.specs.declared.PacketRead.{PacketRead}
 use Rattle.packet.specs.declared.PacketRead.the-variants.{Accepted, Refused}
-use Rattle.packet.specs.declared.PacketList.{PacketList}
 use Rattle.packet.specs.declared.PacketList.the-variants.{Listed, Unlisted}
-use Rattle.packet.specs.declared.PacketMessage.{PacketMessage}
 use Rattle.packet.specs.declared.PacketMessage.the-variants.{Given, Withheld}
+use Rattle.promises.specs.Refusals.{OneOf, readerRefusals, listerRefusals, messageRefusals}
 use Rattle.promises.specs.Endings.{Ends, readTold, listedTold, givenTold, Placed}
-use Rattle.packet.proofs.Told.{outer-top, read-told, read-numbered, list-told, list-numbered, message-told, message-numbered}
-
-pub above : (n : ℕ) → (n ≡ 0 → ⊥) → 1 ≤ n
-above n h = go (eq-zero-or-pos n)
-  where
-    go : (n ≡ 0) ⊎ (0 < n) → 1 ≤ n
-    go (inl e) = absurd (h e)
-    go (inr p) = p
+use Rattle.packet.proofs.Told.{checked-15, read-told, refusal-numbered}
+use Rattle.promises.proofs.Members.{one-among, one-ahead, one-behind}
+use Rattle.promises.proofs.Refusing.{numbers, first-one, read-numbered}
 
 -- ---- the reader
 
@@ -44,44 +39,48 @@ pub accepted-is : (buf : List ℕ) (s e : ℕ) (p : Packet) → packetTold (read
 accepted-is buf s e p is = read-told buf s e (ap (λ (t : PacketTold). t .refusal .number) is) ∙ ap (λ (t : PacketTold). Accepted (t .packet)) is
 
 module _ (buf : List ℕ) (s e : ℕ) where
-  read-from : (x : PacketRead) → readPacket buf s e ≡ x → packetTold x .refusal .number ≡ 0 → x ≡ Accepted (packetTold x .packet)
-  read-from x q z = sym q ∙ read-told buf s e (rw q z) ∙ ap (λ (y : PacketRead). Accepted (packetTold y .packet)) q
+  refused-numbered : (r : Refusal) → readPacket buf s e ≡ Refused r → OneOf (r .number) readerRefusals
+  refused-numbered r q = rw q at (read-numbered buf s e (rw q (refusal-numbered buf s e r q)))
 
-  pub read-ends : Ends 15 readTold noPacket (packetTold (readPacket buf s e))
+  pub read-ends : Ends readerRefusals readTold noPacket (packetTold (readPacket buf s e))
   read-ends = go (readPacket buf s e) refl
     where
-      go : (x : PacketRead) → readPacket buf s e ≡ x → Ends 15 readTold noPacket (packetTold x)
+      go : (x : PacketRead) → readPacket buf s e ≡ x → Ends readerRefusals readTold noPacket (packetTold x)
       go (Accepted p) q = inl (p, refl)
-      go (Refused r) q =
-          let least : 1 ≤ r .number = above (r .number) (λ z. let c : _≡_ {A = ℕ} 0 1 = cc (read-from (Refused r) q z) in omega arith) in
-          inr (r, refl, (least, rw q at (read-numbered buf s e)))
+      go (Refused r) q = inr (r, refl, refused-numbered r q)
 
-  from-outer : (n : ℕ) (rest : PacketRead) (r : Refusal) → n ≡ outerRefusal buf s e → pick (not (eqb n 0)) (Refused (refused n s 0)) rest ≡ Refused r
-      → (r ≡ refused n s 0) ⊎ ((n ≡ 0) × (rest ≡ Refused r))
+  from-outer : (n : ℕ) (rest : PacketRead) (r : Refusal) → n ≡ outerRefusal buf s e → pick (not (eqb n 0)) (Refused (refused n s)) rest ≡ Refused r
+      → (r ≡ refused n s) ⊎ ((n ≡ 0) × (rest ≡ Refused r))
   from-outer n rest r is q = go (eqb n 0) refl q
     where
-      go : (t : Bool) → eqb n 0 ≡ t → pick (not t) (Refused (refused n s 0)) rest ≡ Refused r → (r ≡ refused n s 0) ⊎ ((n ≡ 0) × (rest ≡ Refused r))
+      go : (t : Bool) → eqb n 0 ≡ t → pick (not t) (Refused (refused n s)) rest ≡ Refused r → (r ≡ refused n s) ⊎ ((n ≡ 0) × (rest ≡ Refused r))
       go true z h = inr (eqb-true n 0 z, h)
       go false z h = inl cc
 
   body-placed : Bytes buf → (x : Checked) → bodyChecked (window buf s e) ≡ x → (r : Refusal) → bodyAnswer x (window buf s e) s ≡ Refused r
       → Placed buf s e r
-  unfolding bodyAnswer bodyChecked
+  unfolding fieldsIn bodyAnswer bodyChecked
   body-placed raw (Counted n) q r h = let c : _≡_ {A = ℕ} 0 1 = cc in absurd (omega arith)
   body-placed raw (Faulty f) q r h =
       let w = window buf s e in
       let bytes : Bytes (bodyIn w) = bytes-part w (bodyAt (flagsIn w)) (dataLength w) (bytes-part buf s (e - s) raw) in
-      let is : fault (s + bodyAt (flagsIn w) + f .place) ≡ r = cc in
+      let is : moved (s + bodyAt (flagsIn w)) f ≡ r = cc in
+      let right = checked-15 w f q in
       rw (← is)
-      (record { room = refl; outer = λ h. absurd (omega (arith, h)); inner = λ h. (f .place, refl, fault-at _ _ (bodyIn w) f bytes q) })
+      (record { room = right .1; outer = λ h. absurd (h (right .0)); inner = λ h. (f .place, refl, fault-at _ _ (bodyIn w) f bytes q) })
+
+  -- 15 is none of those that are placed at the start
+  outer-other : outerRefusal buf s e ≢ 15
+  unfolding outerRefusal outerLines frameLines headLines valueLines wholeLines secondaryLines trailerLines
+  outer-other is = false≢true (one-among 15 (0 ∷ numbers (outerLines buf s e)) (rw is at (first-one (outerLines buf s e))))
 
   refused-placed : Bytes buf → (r : Refusal) → readPacket buf s e ≡ Refused r → Placed buf s e r
   unfolding readPacket
   refused-placed raw r q = go (from-outer (outerRefusal buf s e) _ r refl q)
     where
-      go : (r ≡ refused (outerRefusal buf s e) s 0) ⊎ ((outerRefusal buf s e ≡ 0) × (bodyAnswer (bodyChecked (window buf s e)) (window buf s e) s ≡ Refused r))
+      go : (r ≡ refused (outerRefusal buf s e) s) ⊎ ((outerRefusal buf s e ≡ 0) × (bodyAnswer (bodyChecked (window buf s e)) (window buf s e) s ≡ Refused r))
           → Placed buf s e r
-      go (inl h) = rw h (record { room = refl; outer = λ l. refl; inner = λ n. absurd (omega (arith, n, outer-top buf s e)) })
+      go (inl h) = rw h (record { room = refl; outer = λ l. refl; inner = λ n. absurd (outer-other n) })
       go (inr h) = body-placed raw (bodyChecked (window buf s e)) refl r (h .1)
 
   pub read-placed : Bytes buf → packetTold (readPacket buf s e) .refusal .number ≢ 0 → Placed buf s e (packetTold (readPacket buf s e) .refusal)
@@ -94,20 +93,27 @@ module _ (buf : List ℕ) (s e : ℕ) where
 -- ---- the lister and one message
 
 module _ (buf : List ℕ) (s e : ℕ) where
-  pub list-ends : (m n : ℕ) → Ends 16 listedTold 0 (listTold (listPacket buf s e m n))
-  list-ends m n = go (listPacket buf s e m n) refl
+  pub list-ends : (m n : ℕ) → Ends listerRefusals listedTold 0 (listTold (listPacket buf s e m n))
+  unfolding listPacket listAnswer
+  list-ends m n = go (readPacket buf s e) (messageCount (window buf s e)) refl
     where
-      go : (x : PacketList) → listPacket buf s e m n ≡ x → Ends 16 listedTold 0 (listTold x)
-      go (Listed count) q = inl (count, refl)
-      go (Unlisted r) q =
-          let least : 1 ≤ r .number = above (r .number) (λ z. let c : _≡_ {A = ℕ} 0 1 = cc (list-told buf s e m n (rw q z)) in omega arith) in
-          inr (r, refl, (least, rw q at (list-numbered buf s e m n)))
+      fits : (t : Bool) (count : ℕ) → Ends listerRefusals listedTold 0 (listTold (pick t (Unlisted (needing count (refused 16 s))) (Listed count)))
+      fits true count = inr (needing count (refused 16 s), refl, one-behind 16 readerRefusals (16 ∷ []) (inl refl))
+      fits false count = inl (count, refl)
 
-  pub message-ends : (k : ℕ) → Ends 17 givenTold noMessage (messageTold (messagePacket buf s e k))
-  message-ends k = go (messagePacket buf s e k) refl
+      go : (x : PacketRead) (count : ℕ) → readPacket buf s e ≡ x → Ends listerRefusals listedTold 0 (listTold (listAnswer x s count (min m n)))
+      go (Accepted p) count q = fits (ltb (min m n) count) count
+      go (Refused r) count q = inr (r, refl, one-ahead (r .number) readerRefusals (16 ∷ []) (refused-numbered buf s e r q))
+
+  pub message-ends : (k : ℕ) → Ends messageRefusals givenTold noMessage (messageTold (messagePacket buf s e k))
+  unfolding messagePacket messageAnswer
+  message-ends k = go (readPacket buf s e) (messageCount (window buf s e)) (kthMessage (window buf s e) k) refl
     where
-      go : (x : PacketMessage) → messagePacket buf s e k ≡ x → Ends 17 givenTold noMessage (messageTold x)
-      go (Given m) q = inl (m, refl)
-      go (Withheld r) q =
-          let least : 1 ≤ r .number = above (r .number) (λ z. let c : _≡_ {A = ℕ} 0 1 = cc (message-told buf s e k (rw q z)) in omega arith) in
-          inr (r, refl, (least, rw q at (message-numbered buf s e k)))
+      there : (t : Bool) (m : Message) → Ends messageRefusals givenTold noMessage (messageTold (pick t (Withheld (refused 17 s)) (Given m)))
+      there true m = inr (refused 17 s, refl, one-behind 17 readerRefusals (17 ∷ []) (inl refl))
+      there false m = inl (m, refl)
+
+      go : (x : PacketRead) (count : ℕ) (m : Message) → readPacket buf s e ≡ x
+          → Ends messageRefusals givenTold noMessage (messageTold (messageAnswer x s count k m))
+      go (Accepted p) count m q = there (leb count k) m
+      go (Refused r) count m q = inr (r, refl, one-ahead (r .number) readerRefusals (17 ∷ []) (refused-numbered buf s e r q))

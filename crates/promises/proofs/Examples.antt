@@ -10,19 +10,19 @@ use lib.Dec.{lit<, lit≤}
 use Rattle.units.specs.Units.{Bytes, splice, num, bytesOf, sumUnits, summed, zeros}
 use Rattle.builder.specs.Build.{openStep, grown, draftAdded, addStep, entryOf, closeStep, bufAfter, stepTold}
 use Rattle.builder.specs.Run.{Built, fresh, opened, added, closedBody}
-use Rattle.body.specs.Walk.{refused}
-use Rattle.body.specs.Times.{timeOk, ruleOf}
-use Rattle.body.specs.Walk.{messageShape, uartShape, openBody, stampLength, headAt, judge, blockAt, spot, stopAt, ending, walkFrom, walk}
+use Rattle.terms.specs.Refusals.{refused, noRefusal}
+use Rattle.terms.specs.Times.{timeOk, ruleOf}
+use Rattle.body.specs.Walk.{messageShape, uartShape, openBody, stampLength, lengthBy, headAt, judge, blockAt, spot, stopAt, ending, walkFrom, walk}
 use Rattle.body.specs.Answers.{checkBody, messageOf, messageIn}
 use Rattle.body.specs.Blocks.{blockBytes}
 use Rattle.frame.specs.Header.{fieldsIn}
 use Rattle.frame.specs.Rules.{limit, messageRule}
 use Rattle.frame.specs.Table.{first, headLines, valueLines, wholeLines, secondaryLines, trailerLines, frameLines}
 use Rattle.packet_bytes.specs.Bytes.{headWords, headBytes, secondaryWords, secondaryBytes, bodyAndFillerBytes, dataBytes, packetBytes}
-use Rattle.packet.specs.Read.{noRefusal, outerLines, outerRefusal, packetIn, bodyChecked, bodyAnswer, readPacket}
+use Rattle.packet.specs.Read.{inside, outerLines, outerRefusal, packetIn, bodyChecked, bodyAnswer, readPacket}
 use Rattle.packet.specs.Write.{writerLines, writerRefusal, fitted, writePacket, writeTold}
 use Rattle.recording.specs.Reading.{readFrom, reading, readRecording}
-use Rattle.promises.specs.Contents.{packetOf, Accepts, AllAccepted, nil, cons, written}
+use Rattle.promises.specs.Contents.{Accepts, AllAccepted, nil, cons, written}
 use Rattle.packet.specs.Messages.{messageCount, kthMessage, messageAnswer, messagePacket, messageTold}
 use Rattle.promises.specs.Endings.{givenTold}
 use Rattle.promises.specs.Altered.{secondary, trailer, Pieces, none, intact, altered}
@@ -31,13 +31,13 @@ use Rattle.promises.proofs.Alterations.{change-named}
 
 -- ---- L
 
-pub L-written : packetOf (lContents 2 0) ≡ L
+pub L-written : packetBytes (lContents 2 0) ≡ L
 unfolding num bytesOf sumUnits headWords headBytes secondaryWords secondaryBytes bodyAndFillerBytes dataBytes packetBytes L lContents
 L-written = refl
 
 -- its contents with other flags and time, where the writer takes them
 l-accepted : (flags time : ℕ) → flags < 2 ^ 8 → time < 2 ^ 64
-    → writeTold (writePacket (lContents flags time .fields) (lContents flags time .body) 48) .refusal .number ≡ 0
+    → writeTold (writePacket (lContents flags time) 48) .refusal .number ≡ 0
     → Accepts (lContents flags time)
 unfolding lContents Bytes
 l-accepted flags time f t w =
@@ -48,21 +48,21 @@ l-accepted flags time f t w =
     }
 
 pub L-accepted : Accepts (lContents 2 0)
-unfolding num bytesOf sumUnits summed zeros timeOk ruleOf messageShape uartShape openBody stampLength headAt judge blockAt spot stopAt ending walkFrom walk checkBody fieldsIn limit messageRule first headLines valueLines wholeLines secondaryLines trailerLines frameLines headWords headBytes secondaryWords secondaryBytes bodyAndFillerBytes dataBytes packetBytes outerLines outerRefusal packetIn bodyChecked bodyAnswer readPacket writerLines writerRefusal fitted writePacket lContents
+unfolding num bytesOf sumUnits summed zeros timeOk ruleOf messageShape uartShape openBody stampLength lengthBy headAt inside judge blockAt spot stopAt ending walkFrom walk checkBody fieldsIn limit messageRule first headLines valueLines wholeLines secondaryLines trailerLines frameLines headWords headBytes secondaryWords secondaryBytes bodyAndFillerBytes dataBytes packetBytes outerLines outerRefusal packetIn bodyChecked bodyAnswer readPacket writerLines writerRefusal fitted writePacket lContents
 L-accepted = l-accepted 2 0 (lit< tt) (lit< tt) refl
 
 -- ---- three packets
 
 pub three-read : readRecording threeIn 5 125 ≡ record { accepted = 3; reached = 125; refusal = noRefusal }
-unfolding num bytesOf sumUnits summed zeros timeOk ruleOf messageShape uartShape openBody stampLength headAt judge blockAt spot stopAt ending walkFrom walk checkBody fieldsIn limit messageRule first headLines valueLines wholeLines secondaryLines trailerLines frameLines headWords headBytes secondaryWords secondaryBytes bodyAndFillerBytes dataBytes packetBytes outerLines outerRefusal packetIn bodyChecked bodyAnswer readPacket writerLines writerRefusal fitted writePacket L lContents written carriedByte three threeIn readFrom reading readRecording
+unfolding num bytesOf sumUnits summed zeros timeOk ruleOf messageShape uartShape openBody stampLength lengthBy headAt inside judge blockAt spot stopAt ending walkFrom walk checkBody fieldsIn limit messageRule first headLines valueLines wholeLines secondaryLines trailerLines frameLines headWords headBytes secondaryWords secondaryBytes bodyAndFillerBytes dataBytes packetBytes outerLines outerRefusal packetIn bodyChecked bodyAnswer readPacket writerLines writerRefusal fitted writePacket L lContents written carriedByte three threeIn readFrom reading readRecording
 three-read = refl
 
 second-accepted : Accepts (lContents flags1588 (second 2))
-unfolding num bytesOf sumUnits summed zeros timeOk ruleOf messageShape uartShape openBody stampLength headAt judge blockAt spot stopAt ending walkFrom walk checkBody fieldsIn limit messageRule first headLines valueLines wholeLines secondaryLines trailerLines frameLines headWords headBytes secondaryWords secondaryBytes bodyAndFillerBytes dataBytes packetBytes writerLines writerRefusal fitted writePacket lContents carriedByte Bytes
+unfolding num bytesOf sumUnits summed zeros timeOk ruleOf messageShape uartShape openBody stampLength lengthBy headAt inside judge blockAt spot stopAt ending walkFrom walk checkBody fieldsIn limit messageRule first headLines valueLines wholeLines secondaryLines trailerLines frameLines headWords headBytes secondaryWords secondaryBytes bodyAndFillerBytes dataBytes packetBytes writerLines writerRefusal fitted writePacket lContents carriedByte Bytes
 second-accepted = l-accepted flags1588 (second 2) (lit< tt) (lit< tt) refl
 
 carried-accepted : Accepts carriedByte
-unfolding num bytesOf sumUnits summed zeros timeOk ruleOf messageShape uartShape openBody stampLength headAt judge blockAt spot stopAt ending walkFrom walk checkBody fieldsIn limit messageRule first headLines valueLines wholeLines secondaryLines trailerLines frameLines headWords headBytes secondaryWords secondaryBytes bodyAndFillerBytes dataBytes packetBytes writerLines writerRefusal fitted writePacket lContents carriedByte Bytes
+unfolding num bytesOf sumUnits summed zeros timeOk ruleOf messageShape uartShape openBody stampLength lengthBy headAt inside judge blockAt spot stopAt ending walkFrom walk checkBody fieldsIn limit messageRule first headLines valueLines wholeLines secondaryLines trailerLines frameLines headWords headBytes secondaryWords secondaryBytes bodyAndFillerBytes dataBytes packetBytes writerLines writerRefusal fitted writePacket lContents carriedByte Bytes
 carried-accepted =
     record {
       typed =
@@ -76,11 +76,11 @@ unfolding three
 three-accepted =
     cons {c = lContents 2 0} L-accepted (cons {c = lContents flags1588 (second 2)} second-accepted (cons {c = carriedByte} carried-accepted nil))
 
-second-differs : splice (packetOf (lContents flags1588 (second 2))) 24 (0x03 ∷ 0x00 ∷ []) ≢ packetOf (lContents flags1588 (second 2))
+second-differs : splice (packetBytes (lContents flags1588 (second 2))) 24 (0x03 ∷ 0x00 ∷ []) ≢ packetBytes (lContents flags1588 (second 2))
 unfolding bytesOf headWords headBytes secondaryWords secondaryBytes bodyAndFillerBytes dataBytes packetBytes lContents
 second-differs e = let z : _≡_ {A = ℕ} 0x03 0x02 = ap (λ (l : List ℕ). getD l 24 0) e in omega arith
 
-third-differs : splice (packetOf carriedByte) 24 (0xAA ∷ 0x01 ∷ 0x00 ∷ 0x00 ∷ []) ≢ packetOf carriedByte
+third-differs : splice (packetBytes carriedByte) 24 (0xAA ∷ 0x01 ∷ 0x00 ∷ 0x00 ∷ []) ≢ packetBytes carriedByte
 unfolding bytesOf headWords headBytes secondaryWords secondaryBytes bodyAndFillerBytes dataBytes packetBytes carriedByte
 third-differs e = let z : _≡_ {A = ℕ} 0x01 0x00 = ap (λ (l : List ℕ). getD l 25 0) e in omega arith
 
@@ -95,15 +95,15 @@ two-altered =
     none))
 
 -- and it is read up to the first of them
-pub two-altered-read : readRecording twoAltered 0 120 ≡ record { accepted = 1; reached = 40; refusal = refused 11 40 0 }
-unfolding num bytesOf sumUnits summed zeros timeOk ruleOf messageShape uartShape openBody stampLength headAt judge blockAt spot stopAt ending walkFrom walk checkBody fieldsIn limit messageRule first headLines valueLines wholeLines secondaryLines trailerLines frameLines headWords headBytes secondaryWords secondaryBytes bodyAndFillerBytes dataBytes packetBytes outerLines outerRefusal packetIn bodyChecked bodyAnswer readPacket lContents carriedByte twoAltered readFrom reading readRecording
+pub two-altered-read : readRecording twoAltered 0 120 ≡ record { accepted = 1; reached = 40; refusal = refused 11 40 }
+unfolding num bytesOf sumUnits summed zeros timeOk ruleOf messageShape uartShape openBody stampLength lengthBy headAt inside judge blockAt spot stopAt ending walkFrom walk checkBody fieldsIn limit messageRule first headLines valueLines wholeLines secondaryLines trailerLines frameLines headWords headBytes secondaryWords secondaryBytes bodyAndFillerBytes dataBytes packetBytes outerLines outerRefusal packetIn bodyChecked bodyAnswer readPacket lContents carriedByte twoAltered readFrom reading readRecording
 two-altered-read = refl
 
 -- ---- a message with its time stamp: behind header, secondary header, channel word, stamp and ID word
 
-pub stamped-message : messageTold (messagePacket (packetOf stampedContents) 0 56 0)
+pub stamped-message : messageTold (messagePacket (packetBytes stampedContents) 0 56 0)
     ≡ givenTold noRefusal (record { time = 3 * 2 ^ 16; id = 5 * 2 ^ 16 + 3; start = 52; length = 3 })
-unfolding num bytesOf sumUnits summed zeros timeOk ruleOf messageShape uartShape openBody stampLength headAt judge blockAt spot stopAt ending walkFrom walk checkBody fieldsIn limit messageRule first headLines valueLines wholeLines secondaryLines trailerLines frameLines headWords headBytes secondaryWords secondaryBytes bodyAndFillerBytes dataBytes packetBytes outerLines outerRefusal packetIn bodyChecked bodyAnswer readPacket messagePacket messageAnswer messageCount kthMessage messageIn messageOf stampedContents
+unfolding num bytesOf sumUnits summed zeros timeOk ruleOf messageShape uartShape openBody stampLength lengthBy headAt inside judge blockAt spot stopAt ending walkFrom walk checkBody fieldsIn limit messageRule first headLines valueLines wholeLines secondaryLines trailerLines frameLines headWords headBytes secondaryWords secondaryBytes bodyAndFillerBytes dataBytes packetBytes outerLines outerRefusal packetIn bodyChecked bodyAnswer readPacket messagePacket messageAnswer messageCount kthMessage messageIn messageOf stampedContents
 stamped-message = refl
 
 -- ---- L's body is built
@@ -112,7 +112,7 @@ pub body-built : Built bufferAdded (stepTold stepAdded .draft) (entryOf 0 0 bloc
 unfolding stepOpened bufferOpened stepAdded bufferAdded openStep addStep grown draftAdded bufAfter bytesOf stampLength
 body-built = added 0 0 block (lit< tt) (lit< tt) (opened 0x50 0 (fresh (replicate 12 0xEE)))
 
-pub body-closed : (stepTold (closeStep (stepTold stepAdded .draft) 12) .number ≡ 0)
+pub body-closed : (stepTold (closeStep (stepTold stepAdded .draft) 12) .refusal .number ≡ 0)
     × (closedBody bufferAdded (stepTold stepAdded .draft) ≡ lContents 2 0 .body)
 unfolding stepOpened bufferOpened stepAdded bufferAdded openStep addStep closeStep grown draftAdded bufAfter bytesOf stampLength blockBytes lContents
 body-closed = (refl, refl)

@@ -1,8 +1,8 @@
 -- A packet is accepted exactly when every rule holds, and refused by the first that does not: each of the reader's tests says what document 01
 -- says.
-use mathlib.Core.Path.{_≡_, refl, sym, ap, subst, _∙_}
+use mathlib.Core.Path.{_≡_, refl, sym, ap, _∙_}
 use mathlib.Core.List.{List, [], _∷_, _++_}
-use mathlib.Core.Bool.{Bool, true, false, not, _&&_, _||_, false≢true}
+use mathlib.Core.Bool.{Bool, true, false, not, _&&_, _||_}
 use mathlib.Core.Logic.{_↔_, _⊎_, inl, inr, ⊎-elim, _≢_}
 use Prim.Native.Nat.{ℕ, zero, suc, _+_, _-_, _*_, _/_, _%_, _^_, _≤_, _<_}
 use native.Mathlib.Omega.{arith}
@@ -18,26 +18,28 @@ use Rattle.units.proofs.Choices.{and-true, or-true}
 use Rattle.units.proofs.Numbers.{zeros-true, zeros-are}
 use Rattle.units.proofs.Parts.{length-part, bytes-part, field-part, field-zero, field-add}
 use Rattle.units.proofs.Sums.{sum-prefix, summed-says, summed-made}
-use Rattle.body.specs.Times.{timeOk, ruleOf}
+use Rattle.terms.specs.Times.{timeOk, ruleOf}
 use Rattle.body.specs.Walk.{opens, openBody}
 use Rattle.body.specs.Answers.{checkBody}
 use Rattle.body.specs.Blocks.{Entry, entriesIn, BodyOf}
-use Rattle.body.specs.declared.TimeRule.{TimeRule}
+use Rattle.terms.specs.declared.TimeRule.{TimeRule}
 use Rattle.body.specs.declared.Checked.the-variants.{Counted}
 use Rattle.body.proofs.Exactly.{body-of-blocks, body-is-blocks}
-use Rattle.frame.specs.Header.{byte, sync, flagsIn, kindIn, channelIn, versionIn, secondaryBit, absoluteBit, timeFormat, sumLength, unfilledLength, bodyAt, secondaryIn, bodyIn, reservedIn, timeIn}
+use Rattle.frame.specs.Header.{byte, sync, flagsIn, kindIn, channelIn, versionIn, secondaryBit, absoluteBit, timeFormat, sumLength, unfilledLength, bodyAt, secondaryIn, bodyIn, reservedIn, timeIn, fieldsIn}
 use Rattle.frame.specs.Rules as Rules
 use Rattle.frame.specs.Rules.{messageRule}
-use Rattle.frame.specs.Table.{line, first, headLines, valueLines, wholeLines, secondaryLines, trailerLines, frameLines}
+use Rattle.frame.specs.Table.{line, headLines, valueLines, wholeLines, secondaryLines, trailerLines, frameLines}
 use Rattle.frame.proofs.Tables.{holds}
 use Rattle.frame.proofs.Stages.{no-secondary}
 use Rattle.frame.proofs.Frames.{lengths-say}
+use Rattle.packet.proofs.Answers.{inside-says, inside-made}
 use Rattle.packet.specs.Read.{inside, window, outerLines, bodyChecked, readPacket, packetTold}
-use Rattle.packet.proofs.Told.{read-numbered}
 use Rattle.promises.proofs.BodiesKept.{opens-exactly, body-kept, time-says, time-made}
-use Rattle.promises.specs.Keeps.{definedTypes, OneOf, P, D, width, Rule, within, enough, synced, headerSum, version, defined, flagged, channel, lengths, whole, secondarySum, secondary, dataSum, filler, messages, Keeps}
+use Rattle.promises.specs.Refusals.{OneOf, readerRefusals}
+use Rattle.promises.specs.Keeps.{definedTypes, P, D, width, Rule, within, enough, synced, headerSum, version, defined, flagged, channel, lengths, whole, secondarySum, secondary, dataSum, filler, messages, Keeps}
 use Rattle.promises.proofs.Again.{field-below, byte-below}
-use Rattle.promises.proofs.Refusing.{Below, FirstBroken, tests, all-tested, bodyPasses, passes-says, number-is}
+use Rattle.promises.proofs.Members.{among, among-one}
+use Rattle.promises.proofs.Refusing.{Tested, last, tests, kept-all, all-kept, first-exactly, bodyPasses, passes-says, allLines, number-is, numbers-are}
 
 -- ---- 3: sync
 
@@ -75,15 +77,6 @@ type-made : (k : ℕ) → OneOf k definedTypes → Rules.typeOk k ≡ true
 unfolding every
 type-made k o = every-one Rules.typeOk definedTypes k refl o
 
-among : ℕ → List ℕ → Bool
-among k [] = false
-among k (t ∷ ts) = eqb k t || among k ts
-
-among-one : (k : ℕ) (ts : List ℕ) → among k ts ≡ true → OneOf k ts
-unfolding among
-among-one k [] e = absurd (false≢true e)
-among-one k (t ∷ ts) e = ⊎-elim (λ h. inl (eqb-true k t h)) (λ h. inr (among-one k ts h)) (or-true (eqb k t) (among k ts) e)
-
 -- every type below n that the test lets through is among the 35
 listedBelow : ℕ → Bool
 listedBelow zero = true
@@ -101,7 +94,7 @@ listed-below (suc n) k l e t =
     go (no h) here before = before (omega arith)
 
 type-says : (k : ℕ) → k < 256 → Rules.typeOk k ≡ true → OneOf k definedTypes
-unfolding listedBelow among
+unfolding listedBelow
 type-says k l t = among-one k definedTypes (listed-below 256 k l refl t)
 
 -- ---- 7: flags
@@ -317,7 +310,7 @@ kept-counted kind rule bs kept = go (opens kind) refl
 
 module _ (buf : List ℕ) (s e : ℕ) (w : List ℕ) where
   passes₁ : Rule buf s e w 1 → inside buf s e ≡ true
-  passes₁ (within ordered filled) = rw (le-leb s e ordered, le-leb e (length buf) filled)
+  passes₁ (within ordered filled) = inside-made buf s e ordered filled
 
   passes₂ : Rule buf s e w 2 → Rules.enough w ≡ true
   passes₂ (enough h) = le-leb 24 (length w) h
@@ -368,7 +361,7 @@ module _ (buf : List ℕ) (s e : ℕ) (w : List ℕ) where
       (m .0, body-kept (kindIn w) (flagsIn w) (bodyIn w) (m .0) o .1 (m .1))
 
   passes₁₅ : Rule buf s e w 15 → bodyPasses (bodyChecked w) ≡ true
-  unfolding bodyChecked
+  unfolding fieldsIn bodyChecked
   passes₁₅ h = rw (kept-counted (kindIn w) (messageRule (flagsIn w)) (bodyIn w) (kept-messages h) .1)
 
 -- ---- and a test that is passed says its rule, where those before it are kept
@@ -378,7 +371,7 @@ module _ (buf : List ℕ) (s e : ℕ) (w : List ℕ) (raw : Bytes w) where
   Holds = Rule buf s e w
 
   says₁ : inside buf s e ≡ true → Holds 1
-  says₁ t = let i = and-true (leb s e) (leb e (length buf)) t in within (leb-true s e (i .0)) (leb-true e (length buf) (i .1))
+  says₁ t = let i = inside-says buf s e t in within (i .0) (i .1)
 
   says₇ : Rules.flagsOk (flagsIn w) ≡ true → Holds 7
   says₇ t = let f = flags-exactly (flagsIn w) .0 t in flagged (f .0) (f .1)
@@ -392,7 +385,7 @@ module _ (buf : List ℕ) (s e : ℕ) (w : List ℕ) (raw : Bytes w) where
   says₁₂ t = let r = secondary-says w raw t in secondary (r .reserved) (r .chapter4) (r .ieee1588)
 
   says₁₅ : bodyPasses (bodyChecked w) ≡ true → Holds 15
-  unfolding bodyChecked
+  unfolding fieldsIn bodyChecked
   says₁₅ t =
       let kind = kindIn w in
       let rule = messageRule (flagsIn w) in
@@ -402,11 +395,11 @@ module _ (buf : List ℕ) (s e : ℕ) (w : List ℕ) (raw : Bytes w) where
       let es = entriesIn kind rule (bodyIn w) n in
       (es, body-kept kind (flagsIn w) (bodyIn w) es o .0 (body-is-blocks kind rule (bodyIn w) n (bytes-part w (bodyAt (flagsIn w)) (D w) raw) o is .1))
 
-  -- 11 to 15, of a packet that is there
-  trailing : unfilledLength (flagsIn w) (D w) ≤ P w → P w ≤ length w → Below Holds 11
-      → FirstBroken Holds 15 (first (secondaryLines w ++ (trailerLines w ++ (line 15 (bodyPasses (bodyChecked w)) ∷ []))))
+  -- from 11 on, of a packet that is there
+  trailing : unfilledLength (flagsIn w) (D w) ≤ P w → P w ≤ length w
+      → Tested Holds (secondaryLines w ++ (trailerLines w ++ (line 15 (bodyPasses (bodyChecked w)) ∷ [])))
   unfolding secondaryLines trailerLines
-  trailing parts there r₁₀ =
+  trailing parts there =
       let f = flagsIn w in
       let sum = P w - width w in
       let long : bodyAt f ≤ length w = omega (arith, parts, there) in
@@ -415,60 +408,47 @@ module _ (buf : List ℕ) (s e : ℕ) (w : List ℕ) (raw : Bytes w) where
       let sum-is = secondary-sum-exactly w long .0 in
       let data-is = data-sum-exactly w (bodyAt f) sum (width w) behind before .0 in
       let zeros-are = zeros-exactly w (bodyAt f + D w) sum before .0 in
-      tests Holds 15 11 _ _ (omega arith) (λ t. secondarySum (sum-is t)) (passes₁₁ buf s e w long) r₁₀ λ _ r₁₁.
-      tests Holds 15 12 _ _ (omega arith) says₁₂ (passes₁₂ buf s e w raw) r₁₁ λ _ r₁₂.
-      tests Holds 15 13 _ _ (omega arith) (λ t. dataSum (data-is t)) (passes₁₃ buf s e w behind before) r₁₂ λ _ r₁₃.
-      tests Holds 15 14 _ _ (omega arith) (λ t. filler (zeros-are t)) (passes₁₄ buf s e w before) r₁₃ λ _ r₁₄.
-      tests Holds 15 15 _ _ (omega arith) says₁₅ (passes₁₅ buf s e w) r₁₄ λ _ r₁₅.
-      all-tested Holds 15 r₁₅
+      tests (λ t. secondarySum (sum-is t)) (passes₁₁ buf s e w long) λ _.
+      tests says₁₂ (passes₁₂ buf s e w raw) λ _.
+      tests (λ t. dataSum (data-is t)) (passes₁₃ buf s e w behind before) λ _.
+      tests (λ t. filler (zeros-are t)) (passes₁₄ buf s e w before) λ _.
+      tests says₁₅ (passes₁₅ buf s e w) λ _.
+      last
 
-  -- 1 to 15
-  table-first : FirstBroken Holds 15 (first (line 1 (inside buf s e) ∷ (frameLines w ++ (line 15 (bodyPasses (bodyChecked w)) ∷ []))))
+  -- from 1 on
+  table-tested : Tested Holds (line 1 (inside buf s e) ∷ (frameLines w ++ (line 15 (bodyPasses (bodyChecked w)) ∷ [])))
   unfolding frameLines headLines valueLines wholeLines secondaryLines trailerLines
-  table-first =
-      tests Holds 15 1 _ _ (omega arith) says₁ (passes₁ buf s e w) (λ m one less. absurd (omega arith)) λ _ r₁.
-      tests Holds 15 2 _ _ (omega arith) (λ t. enough (leb-true 24 (length w) t)) (passes₂ buf s e w) r₁ λ t₂ r₂.
-      tests Holds 15 3 _ _ (omega arith) (λ t. synced (sync-says w (leb-true 24 (length w) t₂) t)) (passes₃ buf s e w) r₂ λ _ r₃.
-      tests Holds 15 4 _ _ (omega arith) (λ t. headerSum (sym (summed-says 2 11 w t))) (passes₄ buf s e w) r₃ λ _ r₄.
-      tests Holds 15 5 _ _ (omega arith) (λ t. version (version-exactly (versionIn w) .0 t)) (passes₅ buf s e w) r₄ λ _ r₅.
-      tests Holds 15 6 _ _ (omega arith) (λ t. defined (type-says (kindIn w) (byte-below w 15 raw) t)) (passes₆ buf s e w) r₅ λ _ r₆.
-      tests Holds 15 7 _ _ (omega arith) says₇ (passes₇ buf s e w) r₆ λ _ r₇.
-      tests Holds 15 8 _ _ (omega arith) (λ t. channel (channel-exactly (channelIn w) (kindIn w) .0 t)) (passes₈ buf s e w) r₇ λ _ r₈.
-      tests Holds 15 9 _ _ (omega arith) says₉ (passes₉ buf s e w) r₈ λ t₉ r₉.
-      tests Holds 15 10 _ _ (omega arith) (λ t. whole (leb-true (P w) (length w) t)) (passes₁₀ buf s e w) r₉ λ t₁₀ r₁₀.
-      trailing (lengths-say (kindIn w) (flagsIn w) (P w) (D w) t₉ .parts) (leb-true (P w) (length w) t₁₀) r₁₀
+  table-tested =
+      tests says₁ (passes₁ buf s e w) λ _.
+      tests (λ t. enough (leb-true 24 (length w) t)) (passes₂ buf s e w) λ t₂.
+      tests (λ t. synced (sync-says w (leb-true 24 (length w) t₂) t)) (passes₃ buf s e w) λ _.
+      tests (λ t. headerSum (sym (summed-says 2 11 w t))) (passes₄ buf s e w) λ _.
+      tests (λ t. version (version-exactly (versionIn w) .0 t)) (passes₅ buf s e w) λ _.
+      tests (λ t. defined (type-says (kindIn w) (byte-below w 15 raw) t)) (passes₆ buf s e w) λ _.
+      tests says₇ (passes₇ buf s e w) λ _.
+      tests (λ t. channel (channel-exactly (channelIn w) (kindIn w) .0 t)) (passes₈ buf s e w) λ _.
+      tests says₉ (passes₉ buf s e w) λ t₉.
+      tests (λ t. whole (leb-true (P w) (length w) t)) (passes₁₀ buf s e w) λ t₁₀.
+      trailing (lengths-say (kindIn w) (flagsIn w) (P w) (D w) t₉ .parts) (leb-true (P w) (length w) t₁₀)
 
 -- ---- accepted exactly when every rule holds, and refused with n exactly when n is the first that does not
 
 module _ (buf : List ℕ) (raw : Bytes buf) (start end : ℕ) where
-  abbrev number : ℕ
-  number = packetTold (readPacket buf start end) .refusal .number
-
   abbrev Kept : ℕ → Type 0
   Kept = Rule buf start end (window buf start end)
 
-  number-first : FirstBroken Kept 15 number
+  all-tested : Tested Kept (allLines buf start end)
   unfolding outerLines
-  number-first = rw (number-is buf start end) (table-first buf start end (window buf start end) (bytes-part buf start (end - start) raw))
+  all-tested = table-tested buf start end (window buf start end) (bytes-part buf start (end - start) raw)
 
   pub accepted-exactly : (packetTold (readPacket buf start end) .refusal .number ≡ 0) ↔ Keeps buf start end (window buf start end)
-  accepted-exactly = (number-first .kept, λ keeps. go keeps (decLe 1 number))
-    where
-      go : Keeps buf start end (window buf start end) → Dec (1 ≤ number) → number ≡ 0
-      go keeps (yes h) = absurd (number-first .broken (λ z. omega arith) (keeps number h (read-numbered buf start end)))
-      go keeps (no h) = omega arith
+  accepted-exactly =
+      let are = numbers-are buf start end in
+      rw (number-is buf start end) (rw are at (kept-all Kept all-tested (rw are)), rw are at (all-kept Kept all-tested))
 
-  pub refused-exactly : (n : ℕ) → 1 ≤ n → n ≤ 15
+  pub refused-exactly : (before : List ℕ) (n : ℕ) (after : List ℕ) → readerRefusals ≡ before ++ (n ∷ after)
       → (packetTold (readPacket buf start end) .refusal .number ≡ n)
-      ↔ (((m : ℕ) → 1 ≤ m → m < n → Rule buf start end (window buf start end) m) × (¬ Rule buf start end (window buf start end) n))
-  refused-exactly n one most = (
-    λ is. (λ m least less. number-first .below m least (omega arith), λ here. number-first .broken (λ z. omega arith) (subst Kept (sym is) here)),
-    λ (before, broken). go before broken (decLe 1 number) (decLe n number) (decLe number n),
-  )
-    where
-      -- another number would be that of a rule which is kept
-      go : Below Kept n → ¬ Kept n → Dec (1 ≤ number) → Dec (n ≤ number) → Dec (number ≤ n) → number ≡ n
-      go before broken (no h) from to = absurd (broken (number-first .kept (omega arith) n one most))
-      go before broken (yes h) (no g) to = absurd (number-first .broken (λ z. omega arith) (before number h (omega arith)))
-      go before broken (yes h) (yes g) (no k) = absurd (broken (number-first .below n one (omega arith)))
-      go before broken (yes h) (yes g) (yes k) = omega arith
+      ↔ (((m : ℕ) → OneOf m before → Rule buf start end (window buf start end) m) × (¬ Rule buf start end (window buf start end) n))
+  refused-exactly before n after is =
+      rw (number-is buf start end)
+      (first-exactly Kept all-tested before n after (rw (numbers-are buf start end)) (numbers-are buf start end ∙ is))

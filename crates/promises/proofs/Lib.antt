@@ -3,6 +3,7 @@ pub mod Regions
 pub mod Written
 pub mod Again
 pub mod BodiesKept
+pub mod Members
 pub mod Refusing
 pub mod Keeping
 pub mod Building

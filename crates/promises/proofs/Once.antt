@@ -6,9 +6,10 @@ use Prim.Native.Nat.{ℕ}
 use lib.ListN.{length}
 use Rattle.units.specs.Units.{bytesOf}
 use Rattle.body.specs.Blocks.{blockBytes}
-use Rattle.builder.specs.Build.{stamped, freshDraft, openStep, openWord, addStep, entryOf, closeStep, counterBytes, bufAfter}
+use Rattle.builder.specs.Build.{formOf, freshDraft, openStep, openWord, addStep, entryOf, closeStep, counterBytes, bufAfter}
 use Rattle.builder.specs.declared.Draft.{Draft}
 use Rattle.builder.specs.declared.Step.{Step}
+use Rattle.frame.specs.Contents.{contents}
 use Rattle.frame.specs.declared.Fields.{Fields}
 use Rattle.packet_bytes.specs.Bytes.{packetBytes}
 use Rattle.packet.specs.Read.{window, readPacket}
@@ -58,7 +59,7 @@ message-once buf start end number = only-once (messagePacket buf start end numbe
 
 pub write-packet-once : (fields : Fields) (body out₀ : List ℕ) (r r′ : PacketWrite) (out₁ out₁′ : List ℕ)
     → WritePacket fields body out₀ r out₁ → WritePacket fields body out₀ r′ out₁′ → (r ≡ r′) × (out₁ ≡ out₁′)
-write-packet-once fields body out₀ = with-once (writePacket fields body (length out₀)) (λ x. outAfter x out₀ (packetBytes fields body))
+write-packet-once fields body out₀ = with-once (writePacket (contents fields body) (length out₀)) (λ x. outAfter x out₀ (packetBytes (contents fields body)))
 
 -- ---- the recording
 
@@ -77,7 +78,7 @@ open-once d buf₀ kind rule = with-once (openStep d kind rule (length buf₀)) 
 pub add-once : (d : Draft) (buf₀ : List ℕ) (time upper : ℕ) (bytes : List ℕ) (r r′ : Step) (buf₁ buf₁′ : List ℕ)
     → Add d buf₀ time upper bytes r buf₁ → Add d buf₀ time upper bytes r′ buf₁′ → (r ≡ r′) × (buf₁ ≡ buf₁′)
 add-once d buf₀ time upper bytes =
-    with-once (addStep d (length buf₀) time (length bytes)) (λ x. bufAfter x buf₀ (d .used) (blockBytes (stamped (d .rule)) (entryOf time upper bytes)))
+    with-once (addStep d (length buf₀) time (length bytes)) (λ x. bufAfter x buf₀ (d .used) (blockBytes (formOf d) (entryOf time upper bytes)))
 
 pub close-once : (d : Draft) (buf₀ : List ℕ) (r r′ : Step) (buf₁ buf₁′ : List ℕ) → Close d buf₀ r buf₁ → Close d buf₀ r′ buf₁′
     → (r ≡ r′) × (buf₁ ≡ buf₁′)

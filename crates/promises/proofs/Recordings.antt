@@ -8,16 +8,18 @@ use lib.ListN.{length, take, drop, length-append, length-map}
 use lib.Seq.{take-at, drop-at, take-take}
 use Rattle.units.specs.Units.{part}
 use Rattle.units.proofs.Parts.{length-part}
-use Rattle.body.specs.Walk.{refused}
-use Rattle.body.specs.declared.Refusal.{Refusal}
+use Rattle.terms.specs.Refusals.{refused, noRefusal}
+use Rattle.terms.specs.declared.Refusal.{Refusal}
 use Rattle.frame.specs.Table.{first, frameLines}
-use Rattle.packet.specs.Read.{window, noRefusal}
+use Rattle.packet.specs.Read.{window}
+use Rattle.frame.specs.Contents.{Contents}
+use Rattle.packet_bytes.specs.Bytes.{packetBytes}
 use Rattle.packet.specs.declared.Packet.{Packet}
-use Rattle.packet.proofs.Answers.{outer-inside, read-refused}
+use Rattle.packet.proofs.Answers.{outer-inside, inside-made, read-refused}
 use Rattle.recording.specs.Reading.{Reading, stopped, ahead, reading, readRecording}
-use Rattle.recording.proofs.Readings.{from, from-end, from-on, from-stops, inside-of, reading-inside}
+use Rattle.recording.proofs.Readings.{from, from-end, from-on, from-stops, reading-inside}
 use Rattle.recording.proofs.HandedOut.{hands-out, window-behind}
-use Rattle.promises.specs.Contents.{Contents, packetOf, Accepts, AllAccepted, nil, cons, written, contentsOf}
+use Rattle.promises.specs.Contents.{Accepts, AllAccepted, nil, cons, written, contentsOf}
 use Rattle.promises.specs.Altered.{UnitOf, sync, primary, secondary, trailer, Altered}
 use Rattle.promises.specs.ReadsAs.{answered, ReadsAs}
 use Rattle.promises.proofs.Writer.{length-of}
@@ -80,7 +82,7 @@ module _ (buf : List ℕ) (end : ℕ) (within : end ≤ length buf) where
     behind = rw (add-zero at) holds;
   }
   front-written (c ∷ cs) (cons a rest) at order bs holds =
-      let x = packetOf c in
+      let x = packetBytes c in
       let split : window buf at end ≡ x ++ (written cs ++ bs) = holds ∙ append-assoc x (written cs) bs in
       let (p, accepted, contents, long) = read-written c a buf at end within (front-fits at order x (written cs ++ bs) split) (front-is at order x (written cs ++ bs) split) in
       let next = front-written cs rest (at + length x) (front-fits at order x (written cs ++ bs) split) bs (back-is at order x (written cs ++ bs) split) in
@@ -108,7 +110,7 @@ module _ (buf : List ℕ) (end : ℕ) (within : end ≤ length buf) where
     reads-on refusal q =
         let ps = front .packets in
         let e : reading buf start end ≡ joined ps (stopped reached refusal) =
-        reading-inside buf start end (inside-of buf start end order within) ∙ front .reads ∙ ap (joined ps) q in
+        reading-inside buf start end (inside-made buf start end order within) ∙ front .reads ∙ ap (joined ps) q in
         let same : reading buf start end .packets ≡ ps = ap (λ (r : Reading). r .packets) e ∙ append-nil ps in
         let count : length (reading buf start end .packets) ≡ length cs = ap length same ∙ sym (length-map ps (contentsOf buf)) ∙ ap length (front .contents) in
         let answer : readRecording buf start end ≡ answered cs reached refusal = λ i. record { accepted = count i; reached = e i .reached; refusal = e i .refusal } in
@@ -120,11 +122,11 @@ module _ (buf : List ℕ) (end : ℕ) (within : end ≤ length buf) where
         let here : reached ≡ end = omega (arith, f .fits, window-length reached (f .fits), ap length (f .behind ∙ z)) in
         subst (λ (place : ℕ). ReadsAs buf start end cs place noRefusal) here (reads-on noRefusal (from-end buf reached end (omega arith)))
 
-    pub reads-to-altered : (c : Contents) → Accepts c → (n : ℕ) (ys rest : List ℕ) → Altered c n ys → bs ≡ ys ++ rest → ReadsAs buf start end cs reached (refused n reached 0)
+    pub reads-to-altered : (c : Contents) → Accepts c → (n : ℕ) (ys rest : List ℕ) → Altered c n ys → bs ≡ ys ++ rest → ReadsAs buf start end cs reached (refused n reached)
     reads-to-altered c a n ys rest h e =
         let f = front in
         let w = f .behind ∙ e in
         let number : n ≡ first (frameLines (window buf reached end)) = sym (ap (λ (l : List ℕ). first (frameLines l)) w ∙ altered-refused c a rest n ys h) in
-        let is = outer-inside buf reached end n (f .fits) within number in
+        let is = outer-inside buf reached end n (inside-made buf reached end (f .fits) within) number in
         let some : reached < end = omega (arith, front-fits reached (f .fits) ys rest w, altered-some c n ys h) in
-        reads-on (refused n reached 0) (from-stops buf reached end (refused n reached 0) some (sym (read-refused buf reached end n is _ (altered-number c n ys h) refl)))
+        reads-on (refused n reached) (from-stops buf reached end (refused n reached) some (sym (read-refused buf reached end n is _ (altered-number c n ys h) refl)))

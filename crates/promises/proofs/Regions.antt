@@ -9,7 +9,8 @@ use lib.ListN.{length, replicate}
 use lib.Seq.{take-at, drop-at}
 use lib.Dec.{lit<, eqb}
 use borrow.Author.Tests.{eqb-true}
-use Rattle.units.specs.Units.{Bytes, num, field, bytesOf, sumUnits, checksum, secondarySum, dataSum, summed}
+use Rattle.units.specs.Units.{Bytes, num, field, bytesOf, sumUnits, checksum, summed}
+use Rattle.frame.specs.Sums.{secondarySum, dataSum}
 use Rattle.units.specs.Choice.{pick}
 use Rattle.units.proofs.Numbers.{pow-pos, bytes-append, length-bytesOf, bytes-bytesOf, num-bytesOf}
 use Rattle.units.proofs.Sums.{sum-over, summed-made}

@@ -1,7 +1,7 @@
 -- What the calls report of an accepted packet's messages is what is there.
-use mathlib.Core.Path.{_≡_, sym, ap, _∙_}
+use mathlib.Core.Path.{_≡_, refl, sym, ap, _∙_}
 use mathlib.Core.List.{List, [], _∷_, _++_}
-use mathlib.Core.Bool.{Bool, true, false}
+use mathlib.Core.Bool.{true, false}
 use Prim.Native.Nat.{ℕ, zero, suc, _+_, _-_, _≤_, _<_, min}
 use native.Mathlib.Omega.{arith}
 use native.Mathlib.Decide.{decLe}
@@ -10,18 +10,20 @@ use lib.Seq.{getD-at}
 use borrow.Author.Tests.{le-leb, lt-leb, le-ltb, lt-ltb}
 use Rattle.units.specs.Units.{Bytes, part}
 use Rattle.units.proofs.Parts.{length-part, part-part}
-use Rattle.body.specs.Walk.{refused, opens, stampLength}
+use Rattle.body.specs.Walk.{opens, stampLength}
+use Rattle.terms.specs.Refusals.{refused, noRefusal, needing}
 use Rattle.body.specs.Answers.{noMessage, messageIn, tab, filled}
 use Rattle.body.specs.Blocks.{Entry, noEntry, blocksBytes, messageOn, entryAt, entriesIn, BodyOf}
-use Rattle.body.specs.declared.TimeRule.{TimeRule}
+use Rattle.terms.specs.declared.TimeRule.{TimeRule}
+use Rattle.body.specs.declared.Form.{Form}
 use Rattle.body.specs.declared.Message.{Message}
 use Rattle.body.specs.declared.Checked.the-variants.{Counted}
 use Rattle.body.proofs.Reading.{length-tab}
 use Rattle.body.proofs.Bounds.{message-fits}
 use Rattle.body.proofs.Exactly.{body-of-blocks, body-messages}
-use Rattle.frame.specs.Header.{dataLength, flagsIn, kindIn, bodyAt, bodyIn}
+use Rattle.frame.specs.Header.{dataLength, flagsIn, kindIn, bodyAt, bodyIn, fieldsIn}
 use Rattle.frame.specs.Rules.{messageRule}
-use Rattle.packet.specs.Read.{window, bodyChecked, readPacket, noRefusal, packetTold}
+use Rattle.packet.specs.Read.{window, bodyChecked, readPacket, packetTold}
 use Rattle.packet.specs.Messages.{messageCount, kthMessage, listAnswer, listPacket, listAfter, starts, lengths, messageAnswer, messagePacket, listTold, messageTold}
 use Rattle.packet.specs.declared.Packet.{Packet}
 use Rattle.packet.specs.declared.PacketRead.{PacketRead}
@@ -31,8 +33,10 @@ use Rattle.packet.specs.declared.PacketList.the-variants.{Listed, Unlisted}
 use Rattle.packet.specs.declared.PacketMessage.the-variants.{Given, Withheld}
 use Rattle.packet.proofs.Answers.{inPacket}
 use Rattle.packet.proofs.Own.{accepted-at}
+use Rattle.promises.specs.Refusals.{readerRefusals}
 use Rattle.promises.specs.Endings.{listedTold, givenTold}
 use Rattle.promises.specs.Reports.{messageFor, Reports}
+use Rattle.promises.proofs.Members.{among-one}
 use Rattle.promises.proofs.Keeping.{carried-counted, kept-messages, accepted-exactly}
 
 -- ---- what the calls say of an accepted packet with n messages
@@ -46,7 +50,7 @@ module _ (buf : List ℕ) (s e : ℕ) (p : Packet) (n : ℕ) (h : readPacket buf
   unfolding listPacket listAnswer
   lists-all len₁ len₂ room = rw (h, count-is, le-ltb (min len₁ len₂) n room)
 
-  lists-none : (len₁ len₂ : ℕ) → min len₁ len₂ < n → listPacket buf s e len₁ len₂ ≡ Unlisted (refused 16 s n)
+  lists-none : (len₁ len₂ : ℕ) → min len₁ len₂ < n → listPacket buf s e len₁ len₂ ≡ Unlisted (needing n (refused 16 s))
   unfolding listPacket listAnswer
   lists-none len₁ len₂ short = rw (h, count-is, lt-ltb (min len₁ len₂) n short)
 
@@ -54,7 +58,7 @@ module _ (buf : List ℕ) (s e : ℕ) (p : Packet) (n : ℕ) (h : readPacket buf
   unfolding messagePacket messageAnswer
   gives-each k more = rw (h, count-is, lt-leb n k more)
 
-  gives-no-other : (k : ℕ) → n ≤ k → messagePacket buf s e k ≡ Withheld (refused 17 s 0)
+  gives-no-other : (k : ℕ) → n ≤ k → messagePacket buf s e k ≡ Withheld (refused 17 s)
   unfolding messagePacket messageAnswer
   gives-no-other k past = rw (h, count-is, le-leb n k past)
 
@@ -79,7 +83,7 @@ listed-at n entries old r k q h = rw q (List·getD-append (tab n entries) (drop 
 module _ (kind : ℕ) (rule : TimeRule) (bs : List ℕ) (es : List Entry) (b : BodyOf kind rule bs es) (k : ℕ) (more : k < length es) where
   -- the k-th as a message of the body
   abbrev inBody : Message
-  inBody = messageOn (b .shape .stamped) (4 + length (blocksBytes (b .shape .stamped) (take k es))) (getD es k noEntry)
+  inBody = messageOn (b .shape .form) (4 + length (blocksBytes (b .shape .form) (take k es))) (getD es k noEntry)
 
   block-fits : inBody .start + inBody .length ≤ length bs
   block-fits =
@@ -99,11 +103,11 @@ module _ (kind : ℕ) (rule : TimeRule) (bs : List ℕ) (es : List Entry) (b : B
 -- ---- what the calls report of a packet is what is there
 
 -- where the k-th message stands in a packet, from where it stands in the body
-ahead-is : (flags : ℕ) (stamped : Bool) (es : List Entry) (k : ℕ)
-    → inPacket (bodyAt flags) (messageOn stamped (4 + length (blocksBytes stamped (take k es))) (getD es k noEntry)) ≡ messageFor flags stamped es k
-ahead-is flags stamped es k =
-    let before = length (blocksBytes stamped (take k es)) in
-    let start : bodyAt flags + (4 + before + stampLength stamped + 4) ≡ bodyAt flags + 4 + before + stampLength stamped + 4 = omega arith in
+ahead-is : (flags : ℕ) (form : Form) (es : List Entry) (k : ℕ)
+    → inPacket (bodyAt flags) (messageOn form (4 + length (blocksBytes form (take k es))) (getD es k noEntry)) ≡ messageFor flags form es k
+ahead-is flags form es k =
+    let before = length (blocksBytes form (take k es)) in
+    let start : bodyAt flags + (4 + before + stampLength form + 4) ≡ bodyAt flags + 4 + before + stampLength form + 4 = omega arith in
     let x = getD es k noEntry in
     λ i. record { time = x .time; id = x .id; start = start i; length = length (x .bytes) }
 
@@ -114,17 +118,17 @@ module _ (buf : List ℕ) (s e : ℕ) (p : Packet) (es : List Entry) (h : readPa
   w = window buf s e
 
   abbrev reported : ℕ → Message
-  reported = messageFor (flagsIn w) (b .shape .stamped) es
+  reported = messageFor (flagsIn w) (b .shape .form) es
 
   has-count : bodyChecked w ≡ Counted (length es)
-  unfolding bodyChecked
+  unfolding fieldsIn bodyChecked
   has-count = body-of-blocks (kindIn w) (messageRule (flagsIn w)) (bodyIn w) es b .0
 
   kth-is : (k : ℕ) → k < length es → kthMessage w k ≡ reported k
   unfolding kthMessage
   kth-is k more =
       ap (inPacket (bodyAt (flagsIn w))) (body-messages (kindIn w) (messageRule (flagsIn w)) (bodyIn w) es b k more)
-      ∙ ahead-is (flagsIn w) (b .shape .stamped) es k
+      ∙ ahead-is (flagsIn w) (b .shape .form) es k
 
   bytes-in-buffer : (k : ℕ) → k < length es → part buf (s + reported k .start) (length (getD es k noEntry .bytes)) ≡ getD es k noEntry .bytes
   bytes-in-buffer k more =
@@ -132,7 +136,7 @@ module _ (buf : List ℕ) (s e : ℕ) (p : Packet) (es : List Entry) (h : readPa
       let body = bodyAt (flagsIn w) in
       let d = dataLength w in
       let n = length (getD es k noEntry .bytes) in
-      let at = 4 + length (blocksBytes (b .shape .stamped) (take k es)) + stampLength (b .shape .stamped) + 4 in
+      let at = 4 + length (blocksBytes (b .shape .form) (take k es)) + stampLength (b .shape .form) + 4 in
       let long : length (bodyIn w) ≡ d = length-part w body d (omega (arith, o .sound .parts, o .sound .there)) in
       let fits : at + n ≤ d = omega (arith, long, block-fits (kindIn w) (messageRule (flagsIn w)) (bodyIn w) es b k more) in
       let place : s + (body + at) ≡ s + reported k .start = omega arith in
@@ -142,7 +146,7 @@ module _ (buf : List ℕ) (s e : ℕ) (p : Packet) (es : List Entry) (h : readPa
       ∙ sym (part-part w body d at n fits)
       ∙ block-bytes (kindIn w) (messageRule (flagsIn w)) (bodyIn w) es b k more
 
-  pub blocks-reported : Reports buf s e es (b .shape .stamped)
+  pub blocks-reported : Reports buf s e es (b .shape .form)
   blocks-reported =
       record {
         counted = λ len₁ len₂ room. ap listTold (lists-all buf s e p (length es) h has-count len₁ len₂ room);
@@ -161,17 +165,17 @@ module _ (buf : List ℕ) (s e : ℕ) (p : Packet) (es : List Entry) (h : readPa
 -- an accepted packet of a type that we open: the messages there, and what each call says of them
 pub messages-there : (buf : List ℕ) (s e : ℕ) (p : Packet) → Bytes buf → readPacket buf s e ≡ Accepted p → opens (kindIn (window buf s e)) ≡ true
     → (es : List Entry) × (b : BodyOf (kindIn (window buf s e)) (messageRule (flagsIn (window buf s e))) (bodyIn (window buf s e)) es)
-    × Reports buf s e es (b .shape .stamped)
+    × Reports buf s e es (b .shape .form)
 messages-there buf s e p raw h o =
     let keeps = accepted-exactly buf raw s e .0 (ap (λ (x : PacketRead). packetTold x .refusal .number) h) in
-    let m = kept-messages buf s e (window buf s e) (keeps 15 (omega arith) (omega arith)) o in
+    let m = kept-messages buf s e (window buf s e) (keeps 15 (among-one 15 readerRefusals refl)) o in
     (m .0, m .1, blocks-reported buf s e p (m .0) h (m .1))
 
 -- of any other type: none
 pub carried-none : (buf : List ℕ) (s e : ℕ) (p : Packet) → readPacket buf s e ≡ Accepted p → opens (kindIn (window buf s e)) ≡ false
     → ((len₁ len₂ : ℕ) → listTold (listPacket buf s e len₁ len₂) ≡ listedTold noRefusal 0)
-    × ((k : ℕ) → messageTold (messagePacket buf s e k) ≡ givenTold (refused 17 s 0) noMessage)
-unfolding bodyChecked
+    × ((k : ℕ) → messageTold (messagePacket buf s e k) ≡ givenTold (refused 17 s) noMessage)
+unfolding fieldsIn bodyChecked
 carried-none buf s e p h o =
     let w = window buf s e in
     let none = carried-counted (kindIn w) (messageRule (flagsIn w)) (bodyIn w) o in (

@@ -9,7 +9,8 @@ use lib.ListN.{length, take, drop, length-append, length-drop, List·getD-append
 use lib.Seq.{length-take-le, take-append-add, drop-append-le, take-take}
 use lib.Dec.{eqb}
 use borrow.Author.Tests.{eqb-true}
-use Rattle.units.specs.Units.{Bytes, part, num, field, sumUnits, checksum, sumWidth, summed, Changed}
+use Rattle.units.specs.Units.{Bytes, part, num, field, sumUnits, checksum, summed, Changed}
+use Rattle.frame.specs.Sums.{sumWidth}
 use Rattle.units.proofs.Numbers.{num-inj}
 use Rattle.units.proofs.Parts.{length-part, bytes-part, part-part, part-front, part-at, field-part, field-front, field-two}
 use Rattle.units.proofs.Sums.{sum-prefix, sum-sees}

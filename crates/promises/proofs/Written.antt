@@ -6,7 +6,8 @@ use native.Mathlib.Omega.{arith}
 use lib.ListN.{length, drop, replicate, length-append, length-replicate}
 use lib.Seq.{take-take, take-length}
 use borrow.Author.Tests.{eq-eqb, le-leb}
-use Rattle.units.specs.Units.{Bytes, part, num, dataSum}
+use Rattle.units.specs.Units.{Bytes, part, num}
+use Rattle.frame.specs.Sums.{dataSum}
 use Rattle.units.proofs.Numbers.{bytes-append, length-bytesOf, zeros-replicate}
 use Rattle.units.proofs.Parts.{part-at, part-part}
 use Rattle.body.specs.declared.Checked.the-variants.{Counted}
@@ -14,16 +15,17 @@ use Rattle.frame.specs.Header.{channelIn, packetLength, dataLength, versionIn, 
 use Rattle.frame.specs.Table.{first, frameLines}
 use Rattle.frame.specs.inner.Lengths.{Sound}
 use Rattle.frame.proofs.Frames.{Framed, framed-passes, frame-sound, Lengths, lengths-say, limit-cap, packet-length-front, body-front, fields-front, frame-front, OfFront, own-bytes}
+use Rattle.frame.specs.Contents.{Contents, contentsLength}
 use Rattle.packet_bytes.specs.Bytes.{headBytes, secondaryBytes, bodyAndFillerBytes, dataBytes, packetBytes}
 use Rattle.packet_bytes.proofs.Puts.{length-head, length-secondary, length-filled}
 use Rattle.packet.specs.Read.{window, packetIn, bodyChecked, readPacket}
 use Rattle.packet.specs.declared.Packet.{Packet}
 use Rattle.packet.specs.declared.PacketRead.the-variants.{Accepted}
-use Rattle.packet.proofs.Answers.{outer-inside, outer-open}
+use Rattle.packet.proofs.Answers.{outer-inside, inside-made, outer-open}
 use Rattle.packet.proofs.Own.{at-accepted, checked-front}
-use Rattle.promises.specs.Contents.{Contents, Typed, packetOf, Accepts, contentsOf}
+use Rattle.promises.specs.Contents.{Typed, Accepts, contentsOf}
 use Rattle.promises.specs.Altered.{flagsOf}
-use Rattle.promises.proofs.Writer.{Writable, lengthIn, length-of, accepts-writable}
+use Rattle.promises.proofs.Writer.{Writable, length-of, accepts-writable}
 use Rattle.promises.proofs.Regions.{HeadIs, head-is, head-summed, head-bytes, secondary-summed, secondary-reserved, secondary-time, secondary-bytes, sumBytes, data-parts, sum-back, data-bytes}
 
 -- ---- the packet's regions
@@ -32,7 +34,7 @@ abbrev timeOf : Contents → ℕ
 timeOf c = c .fields .time
 
 abbrev headOf : Contents → List ℕ
-headOf c = headBytes (c .fields) (lengthIn c) (length (c .body))
+headOf c = headBytes (c .fields) (contentsLength c) (length (c .body))
 
 abbrev secondaryOf : Contents → List ℕ
 secondaryOf c = secondaryBytes (flagsOf c) (timeOf c)
@@ -52,7 +54,7 @@ sumOf c = sumBytes (flagsOf c) (c .body)
 module _ (c : Contents) where
   -- where each begins
   head-length : length (headOf c) ≡ 24
-  head-length = length-head (c .fields) (lengthIn c) (length (c .body))
+  head-length = length-head (c .fields) (contentsLength c) (length (c .body))
 
   before-body : length (headOf c ++ secondaryOf c) ≡ bodyAt (flagsOf c)
   before-body = omega (arith, length-append (headOf c) (secondaryOf c), head-length, length-secondary (flagsOf c) (timeOf c))
@@ -60,109 +62,109 @@ module _ (c : Contents) where
   before-filler : length (headOf c ++ secondaryOf c ++ c .body) ≡ bodyAt (flagsOf c) + length (c .body)
   before-filler = omega (arith, length-append (headOf c ++ secondaryOf c) (c .body), before-body)
 
-  before-sum : length (headOf c ++ secondaryOf c ++ filledOf c) ≡ lengthIn c - sumLength (flagsOf c)
+  before-sum : length (headOf c ++ secondaryOf c ++ filledOf c) ≡ contentsLength c - sumLength (flagsOf c)
   before-sum = omega (arith, length-append (headOf c ++ secondaryOf c) (filledOf c), before-body, length-filled (flagsOf c) (c .body))
 
   -- what stands before and behind it
-  around-secondary : packetOf c ≡ headOf c ++ (secondaryOf c ++ dataOf c)
+  around-secondary : packetBytes c ≡ headOf c ++ (secondaryOf c ++ dataOf c)
   unfolding packetBytes
   around-secondary = append-assoc (headOf c) (secondaryOf c) (dataOf c)
 
-  around-body : packetOf c ≡ headOf c ++ secondaryOf c ++ (c .body ++ (fillerOf c ++ sumOf c))
+  around-body : packetBytes c ≡ headOf c ++ secondaryOf c ++ (c .body ++ (fillerOf c ++ sumOf c))
   unfolding packetBytes
   around-body = rw (data-parts (flagsOf c) (c .body))
 
-  around-filler : packetOf c ≡ headOf c ++ secondaryOf c ++ c .body ++ (fillerOf c ++ sumOf c)
+  around-filler : packetBytes c ≡ headOf c ++ secondaryOf c ++ c .body ++ (fillerOf c ++ sumOf c)
   around-filler = around-body ∙ sym (append-assoc (headOf c ++ secondaryOf c) (c .body) (fillerOf c ++ sumOf c))
 
-  around-filled : packetOf c ≡ headOf c ++ secondaryOf c ++ (filledOf c ++ sumOf c)
+  around-filled : packetBytes c ≡ headOf c ++ secondaryOf c ++ (filledOf c ++ sumOf c)
   unfolding packetBytes dataBytes
   around-filled = refl
 
-  around-sum : packetOf c ≡ headOf c ++ secondaryOf c ++ filledOf c ++ (sumOf c ++ [])
+  around-sum : packetBytes c ≡ headOf c ++ secondaryOf c ++ filledOf c ++ (sumOf c ++ [])
   around-sum = rw append-nil (around-filled ∙ sym (append-assoc (headOf c ++ secondaryOf c) (filledOf c) (sumOf c)))
 
-  pub written-bytes : Typed c → Bytes (packetOf c)
+  pub written-bytes : Typed c → Bytes (packetBytes c)
   written-bytes t =
       rw around-secondary
-      (bytes-append (headOf c) (secondaryOf c ++ dataOf c) (head-bytes (c .fields) (lengthIn c) (length (c .body)) (t .version) (t .sequence) (t .flags) (t .kind))
+      (bytes-append (headOf c) (secondaryOf c ++ dataOf c) (head-bytes (c .fields) (contentsLength c) (length (c .body)) (t .version) (t .sequence) (t .flags) (t .kind))
       (bytes-append (secondaryOf c) (dataOf c) (secondary-bytes (flagsOf c) (timeOf c)) (data-bytes (flagsOf c) (c .body) (t .body))))
 
 module _ (c : Contents) (t : Typed c) (r : Writable c) where
   -- ---- the header's numbers
 
-  lengths : Lengths (c .fields .kind) (flagsOf c) (lengthIn c) (length (c .body))
-  lengths = lengths-say (c .fields .kind) (flagsOf c) (lengthIn c) (length (c .body)) (r .values .lengthsOk)
+  lengths : Lengths (c .fields .kind) (flagsOf c) (contentsLength c) (length (c .body))
+  lengths = lengths-say (c .fields .kind) (flagsOf c) (contentsLength c) (length (c .body)) (r .values .lengthsOk)
 
-  capped : lengthIn c ≤ 134217728
+  capped : contentsLength c ≤ 134217728
   capped = omega (arith, lengths .within, limit-cap (c .fields .kind))
 
-  head-back : HeadIs (c .fields) (lengthIn c) (length (c .body)) (packetOf c)
-  head-back = rw (around-secondary c) (head-is (c .fields) (lengthIn c) (length (c .body)) (secondaryOf c ++ dataOf c))
+  head-back : HeadIs (c .fields) (contentsLength c) (length (c .body)) (packetBytes c)
+  head-back = rw (around-secondary c) (head-is (c .fields) (contentsLength c) (length (c .body)) (secondaryOf c ++ dataOf c))
 
-  channel-back : channelIn (packetOf c) ≡ c .fields .channel
+  channel-back : channelIn (packetBytes c) ≡ c .fields .channel
   channel-back = head-back .channel (t .channel)
 
-  pub written-length : packetLength (packetOf c) ≡ lengthIn c
+  pub written-length : packetLength (packetBytes c) ≡ contentsLength c
   written-length = head-back .packet-length (omega (arith, capped))
 
-  pub written-data-length : dataLength (packetOf c) ≡ length (c .body)
+  pub written-data-length : dataLength (packetBytes c) ≡ length (c .body)
   written-data-length = head-back .data-length (omega (arith, capped))
 
-  version-back : versionIn (packetOf c) ≡ c .fields .version
+  version-back : versionIn (packetBytes c) ≡ c .fields .version
   version-back = head-back .version
 
-  sequence-back : sequenceIn (packetOf c) ≡ c .fields .sequence
+  sequence-back : sequenceIn (packetBytes c) ≡ c .fields .sequence
   sequence-back = head-back .sequence
 
-  flags-back : flagsIn (packetOf c) ≡ flagsOf c
+  flags-back : flagsIn (packetBytes c) ≡ flagsOf c
   flags-back = head-back .flags
 
-  kind-back : kindIn (packetOf c) ≡ c .fields .kind
+  kind-back : kindIn (packetBytes c) ≡ c .fields .kind
   kind-back = head-back .kind
 
-  rtc-back : rtcIn (packetOf c) ≡ c .fields .rtc
+  rtc-back : rtcIn (packetBytes c) ≡ c .fields .rtc
   rtc-back = head-back .rtc (r .rtc)
 
   -- ---- the parts behind it
 
-  secondary-back : secondaryIn (packetOf c) ≡ secondaryOf c
+  secondary-back : secondaryIn (packetBytes c) ≡ secondaryOf c
   secondary-back =
       rw flags-back
-      (part-at (packetOf c) (headOf c) (secondaryOf c) (dataOf c) 24 (secondaryLength (flagsOf c)) (around-secondary c) (head-length c)
+      (part-at (packetBytes c) (headOf c) (secondaryOf c) (dataOf c) 24 (secondaryLength (flagsOf c)) (around-secondary c) (head-length c)
       (length-secondary (flagsOf c) (timeOf c)))
 
-  time-back : timeIn (packetOf c) ≡ timeOf c
+  time-back : timeIn (packetBytes c) ≡ timeOf c
   time-back = rw secondary-back (secondary-time (flagsOf c) (timeOf c) (t .time) (r .absent))
 
-  pub written-body : bodyIn (packetOf c) ≡ c .body
+  pub written-body : bodyIn (packetBytes c) ≡ c .body
   written-body =
       rw (flags-back, written-data-length)
-      (part-at (packetOf c) (headOf c ++ secondaryOf c) (c .body) (fillerOf c ++ sumOf c) _ _ (around-body c) (before-body c) refl)
+      (part-at (packetBytes c) (headOf c ++ secondaryOf c) (c .body) (fillerOf c ++ sumOf c) _ _ (around-body c) (before-body c) refl)
 
-  filler-back : fillerIn (packetOf c) ≡ fillerOf c
+  filler-back : fillerIn (packetBytes c) ≡ fillerOf c
   filler-back =
       let g = fillerFor (flagsOf c) (length (c .body)) in
-      let n : lengthIn c - sumLength (flagsOf c) - (bodyAt (flagsOf c) + length (c .body)) ≡ g = omega arith in
+      let n : contentsLength c - sumLength (flagsOf c) - (bodyAt (flagsOf c) + length (c .body)) ≡ g = omega arith in
       rw (flags-back, written-data-length, written-length, n)
-      (part-at (packetOf c) (headOf c ++ secondaryOf c ++ c .body) (fillerOf c) (sumOf c) _ g (around-filler c) (before-filler c) (length-replicate {A = ℕ} g 0))
+      (part-at (packetBytes c) (headOf c ++ secondaryOf c ++ c .body) (fillerOf c) (sumOf c) _ g (around-filler c) (before-filler c) (length-replicate {A = ℕ} g 0))
 
-  filled-back : bodyAndFillerIn (packetOf c) ≡ filledOf c
+  filled-back : bodyAndFillerIn (packetBytes c) ≡ filledOf c
   filled-back =
-      let n : lengthIn c - sumLength (flagsOf c) - bodyAt (flagsOf c) ≡ length (c .body) + fillerFor (flagsOf c) (length (c .body)) = omega arith in
+      let n : contentsLength c - sumLength (flagsOf c) - bodyAt (flagsOf c) ≡ length (c .body) + fillerFor (flagsOf c) (length (c .body)) = omega arith in
       rw (flags-back, written-length, n)
-      (part-at (packetOf c) (headOf c ++ secondaryOf c) (filledOf c) (sumOf c) _ _ (around-filled c) (before-body c) (length-filled (flagsOf c) (c .body)))
+      (part-at (packetBytes c) (headOf c ++ secondaryOf c) (filledOf c) (sumOf c) _ _ (around-filled c) (before-body c) (length-filled (flagsOf c) (c .body)))
 
-  data-sum-back : dataSumIn (packetOf c) ≡ dataSum (sumCode (flagsOf c)) (filledOf c)
+  data-sum-back : dataSumIn (packetBytes c) ≡ dataSum (sumCode (flagsOf c)) (filledOf c)
   data-sum-back =
       rw (flags-back, written-length)
       (ap num
-      (part-at (packetOf c) (headOf c ++ secondaryOf c ++ filledOf c) (sumOf c) [] _ _ (around-sum c) (before-sum c) (length-bytesOf (sumLength (flagsOf c)) _))
+      (part-at (packetBytes c) (headOf c ++ secondaryOf c ++ filledOf c) (sumOf c) [] _ _ (around-sum c) (before-sum c) (length-bytesOf (sumLength (flagsOf c)) _))
       ∙ sum-back (flagsOf c) (c .body))
 
   -- ---- what the reader finds
 
-  pub written-fields : fieldsIn (packetOf c) ≡ c .fields
+  pub written-fields : fieldsIn (packetBytes c) ≡ c .fields
   unfolding fieldsIn
   written-fields = λ i. record {
     channel = channel-back i;
@@ -175,16 +177,16 @@ module _ (c : Contents) (t : Typed c) (r : Writable c) where
   }
 
   -- 2 to 14
-  pub written-framed : Framed (packetOf c)
+  pub written-framed : Framed (packetBytes c)
   written-framed =
       let behind = secondaryOf c ++ dataOf c in
       let sum = dataSum (sumCode (flagsOf c)) (filledOf c) in
       record {
-        enough = le-leb 24 (length (packetOf c)) (omega (arith, length-of c, lengths .parts));
+        enough = le-leb 24 (length (packetBytes c)) (omega (arith, length-of c, lengths .parts));
         synced = head-back .sync;
-        headerSummed = rw (around-secondary c) (head-summed (c .fields) (lengthIn c) (length (c .body)) behind);
+        headerSummed = rw (around-secondary c) (head-summed (c .fields) (contentsLength c) (length (c .body)) behind);
         values = rw (channel-back, version-back, flags-back, kind-back, written-length, written-data-length) (r .values);
-        whole = le-leb (packetLength (packetOf c)) (length (packetOf c)) (omega (arith, written-length, length-of c));
+        whole = le-leb (packetLength (packetBytes c)) (length (packetBytes c)) (omega (arith, written-length, length-of c));
         secondarySummed = rw secondary-back (secondary-summed (flagsOf c) (timeOf c));
         secondaryOk = rw (time-back, secondary-back, flags-back, secondary-reserved (flagsOf c) (timeOf c)) (r .time);
         dataSummed = rw (filled-back, data-sum-back, flags-back) (eq-eqb sum sum refl);
@@ -192,32 +194,32 @@ module _ (c : Contents) (t : Typed c) (r : Writable c) where
       }
 
   -- 15
-  pub written-checked : bodyChecked (packetOf c) ≡ Counted (r .count)
+  pub written-checked : bodyChecked (packetBytes c) ≡ Counted (r .count)
   unfolding bodyChecked
-  written-checked = rw (written-body, kind-back, flags-back) (r .body)
+  written-checked = rw (written-body, written-fields) (r .body)
 
-  pub written-sound : Sound (packetOf c)
-  written-sound = frame-sound (packetOf c) (framed-passes (packetOf c) written-framed)
+  pub written-sound : Sound (packetBytes c)
+  written-sound = frame-sound (packetBytes c) (framed-passes (packetBytes c) written-framed)
 
 -- ---- read again, in a window that begins with it
 
-module _ (c : Contents) (a : Accepts c) (buf : List ℕ) (s e : ℕ) (within : e ≤ length buf) (fits : s + length (packetOf c) ≤ e)
-    (same : part buf s (length (packetOf c)) ≡ packetOf c) where
+module _ (c : Contents) (a : Accepts c) (buf : List ℕ) (s e : ℕ) (within : e ≤ length buf) (fits : s + length (packetBytes c) ≤ e)
+    (same : part buf s (length (packetBytes c)) ≡ packetBytes c) where
   -- what is said of a packet alone is said of the window
-  said : {A : Type 0} (what : List ℕ → A) → OfFront what → what (window buf s e) ≡ what (packetOf c)
+  said : {A : Type 0} (what : List ℕ → A) → OfFront what → what (window buf s e) ≡ what (packetBytes c)
   said what front =
       let r = accepts-writable c a in
-      let n : packetLength (packetOf c) ≡ length (packetOf c) = written-length c (a .typed) r ∙ sym (length-of c) in
-      own-bytes what front (packetOf c) (window buf s e) (written-sound c (a .typed) r)
-      (rw n (take-take (length (packetOf c)) (e - s) (drop s buf) (omega arith) ∙ same ∙ sym (take-length (packetOf c))))
+      let n : packetLength (packetBytes c) ≡ length (packetBytes c) = written-length c (a .typed) r ∙ sym (length-of c) in
+      own-bytes what front (packetBytes c) (window buf s e) (written-sound c (a .typed) r)
+      (rw n (take-take (length (packetBytes c)) (e - s) (drop s buf) (omega arith) ∙ same ∙ sym (take-length (packetBytes c))))
 
-  pub read-written : (p : Packet) × (readPacket buf s e ≡ Accepted p) × (contentsOf buf p ≡ c) × (p .length ≡ length (packetOf c))
+  pub read-written : (p : Packet) × (readPacket buf s e ≡ Accepted p) × (contentsOf buf p ≡ c) × (p .length ≡ length (packetBytes c))
   unfolding packetIn
   read-written =
       let r = accepts-writable c a in
       let w = window buf s e in
-      let framed : first (frameLines w) ≡ 0 = ap first (said frameLines frame-front) ∙ framed-passes (packetOf c) (written-framed c (a .typed) r) in
-      let opens = outer-open buf s e (sym (outer-inside buf s e 0 (omega arith) within (sym framed))) in
+      let framed : first (frameLines w) ≡ 0 = ap first (said frameLines frame-front) ∙ framed-passes (packetBytes c) (written-framed c (a .typed) r) in
+      let opens = outer-open buf s e (sym (outer-inside buf s e 0 (inside-made buf s e (omega arith) within) (sym framed))) in
       let fields : fieldsIn w ≡ c .fields = said fieldsIn fields-front ∙ written-fields c (a .typed) r in
       let place : bodyAt (flagsIn w) + dataLength w ≤ e - s = omega (arith, opens .sound .parts, opens .sound .there, opens .reach) in
       let body : part buf (s + bodyAt (flagsIn w)) (dataLength w) ≡ c .body =

@@ -4,9 +4,12 @@ use mathlib.Core.List.{List, [], _∷_, _++_}
 use mathlib.Core.Logic.{_⊎_, _≢_}
 use Prim.Native.Nat.{ℕ, suc, _+_, _*_, _/_, _%_, _≤_, _<_}
 use lib.ListN.{length}
-use Rattle.units.specs.Units.{Bytes, sumWidth}
+use Rattle.units.specs.Units.{Bytes}
+use Rattle.frame.specs.Sums.{sumWidth}
 use Rattle.frame.specs.Header.{byte}
-use Rattle.promises.specs.Contents.{Contents, packetOf, Accepts, AllAccepted, written}
+use Rattle.frame.specs.Contents.{Contents}
+use Rattle.packet_bytes.specs.Bytes.{packetBytes}
+use Rattle.promises.specs.Contents.{Accepts, AllAccepted, written}
 
 abbrev pub flagsOf : Contents → ℕ
 flagsOf c = c .fields .flags
@@ -30,7 +33,7 @@ pub data UnitOf (c : Contents) : ℕ → ℕ → ℕ → Type 0 where
   -- one 16-bit word of its secondary header, if it has one, the sum too
   secondary : (j : ℕ) → 2 * j + 2 ≤ secondarySize c → UnitOf c 11 (24 + 2 * j) 2
   -- if it carries a data sum, one aligned unit of that sum's width in body, filler or sum, counted from the body's first byte
-  trailer : (j : ℕ) → 0 < sumSize c → bodyPlace c + sumSize c * j + sumSize c ≤ length (packetOf c)
+  trailer : (j : ℕ) → 0 < sumSize c → bodyPlace c + sumSize c * j + sumSize c ≤ length (packetBytes c)
       → UnitOf c 13 (bodyPlace c + sumSize c * j) (sumSize c)
 
 -- ys is xs with some of the n bytes at `at` altered, and no other
@@ -45,12 +48,12 @@ pub record Altered (c : Contents) (n : ℕ) (ys : List ℕ) : Type 0 where
   pub place : ℕ
   pub width : ℕ
   pub unit : UnitOf c n place width
-  pub change : AlteredAt place width (packetOf c) ys
+  pub change : AlteredAt place width (packetBytes c) ys
 
 -- contents that the writer accepts, written end to end, each packet left as it is or altered in a single unit; k of them are altered
 pub data Pieces : List Contents → ℕ → List ℕ → Type 0 where
   none : Pieces [] 0 []
-  intact : {c : Contents} {cs : List Contents} {k : ℕ} {bs : List ℕ} → Accepts c → Pieces cs k bs → Pieces (c ∷ cs) k (packetOf c ++ bs)
+  intact : {c : Contents} {cs : List Contents} {k : ℕ} {bs : List ℕ} → Accepts c → Pieces cs k bs → Pieces (c ∷ cs) k (packetBytes c ++ bs)
   altered : {c : Contents} {n : ℕ} {ys : List ℕ} {cs : List Contents} {k : ℕ} {bs : List ℕ} → Accepts c → Altered c n ys → Pieces cs k bs
       → Pieces (c ∷ cs) (suc k) (ys ++ bs)
 

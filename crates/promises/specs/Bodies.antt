@@ -2,12 +2,17 @@
 -- No test of the reader's is cited: that the reader's tests say the same is proved in proofs/BodiesKept.antt.
 use mathlib.Core.Path.{_≡_}
 use mathlib.Core.List.{List, [], _∷_, _++_}
-use mathlib.Core.Bool.{Bool, true, false}
-use mathlib.Core.Logic.{_↔_}
+use mathlib.Core.Logic.{_≢_}
 use Prim.Native.Nat.{ℕ, _/_, _%_, _^_, _≤_, _<_}
 use lib.ListN.{length, take}
 use Rattle.units.specs.Units.{field}
 use Rattle.body.specs.Blocks.{Entry, blocksBytes}
+use Rattle.body.specs.declared.Form.{Form}
+use Rattle.body.specs.declared.Form.the-variants.{Stamped, Plain}
+
+-- bodies of type 0x30 (Message) and 0x50 (UART) are opened; every other defined type is carried
+abbrev pub openedTypes : List ℕ
+openedTypes = 0x30 ∷ 0x50 ∷ []
 
 -- a message's time, by flag bit 6 and the time format (bits 3-2): bit 6 clear means a value below 2^48; set means the secondary time rule of the same format: Chapter 4, the low 16
 -- bits are zero; IEEE 1588, the low long word is below 1,000,000,000; extended counter, any
@@ -25,28 +30,28 @@ pub record MessageWord (word n : ℕ) : Type 0 where
   pub segment : 2 ≤ word / 2 ^ 16 → (2 ≤ word % 2 ^ 16) × (n ≡ 1)
 
 -- a block: n, 1 to 65,535, is bits 15-0 of the ID word of 4 bytes; its time, of 8 bytes, is in form, or 0 where none is stored
-pub record BlockKept (flags : ℕ) (stamped : Bool) (e : Entry) : Type 0 where
+pub record BlockKept (flags : ℕ) (form : Form) (e : Entry) : Type 0 where
   pub some : 1 ≤ length (e .bytes)
   pub size : length (e .bytes) ≡ e .id % 2 ^ 16
   pub word : e .id < 2 ^ 32
   pub time : e .time < 2 ^ 64
-  pub none : stamped ≡ false → e .time ≡ 0
-  pub in-form : stamped ≡ true → TimeInForm flags (e .time)
+  pub none : form ≢ Stamped → e .time ≡ 0
+  pub in-form : form ≡ Stamped → TimeInForm flags (e .time)
 
-abbrev pub AllKept : ℕ → Bool → List Entry → Type 0
-AllKept flags stamped [] = Unit {0}
-AllKept flags stamped (e ∷ es) = BlockKept flags stamped e × AllKept flags stamped es
+abbrev pub AllKept : ℕ → Form → List Entry → Type 0
+AllKept flags form [] = Unit {0}
+AllKept flags form (e ∷ es) = BlockKept flags form e × AllKept flags form es
 
 -- bs is its channel word followed by these blocks, one or more, to its end
 pub record BodyKept (kind flags : ℕ) (bs : List ℕ) (es : List Entry) : Type 0 where
-  -- whether the blocks have time stamps
-  pub stamped : Bool
+  -- the form of its blocks
+  pub form : Form
   -- a 4-byte channel word
   pub long : 4 ≤ length bs
   pub some : 1 ≤ length es
   -- 0x30 (Message): always a time stamp
-  pub message : kind ≡ 0x30 → (stamped ≡ true) × MessageWord (field bs 0 4) (length es)
+  pub message : kind ≡ 0x30 → (form ≡ Stamped) × MessageWord (field bs 0 4) (length es)
   -- 0x50 (UART): bits 30-0 of the channel word are zero; a time stamp only if bit 31 is set
-  pub uart : kind ≡ 0x50 → (field bs 0 4 % 2 ^ 31 ≡ 0) × ((stamped ≡ true) ↔ (2 ^ 31 ≤ field bs 0 4))
-  pub is : bs ≡ take 4 bs ++ blocksBytes stamped es
-  pub blocks : AllKept flags stamped es
+  pub uart : kind ≡ 0x50 → (field bs 0 4 % 2 ^ 31 ≡ 0) × (2 ^ 31 ≤ field bs 0 4 → form ≡ Stamped) × (field bs 0 4 < 2 ^ 31 → form ≡ Plain)
+  pub is : bs ≡ take 4 bs ++ blocksBytes form es
+  pub blocks : AllKept flags form es

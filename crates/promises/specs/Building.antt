@@ -39,9 +39,9 @@ pub record InForm (rule time : ℕ) : Type 0 where
   -- IEEE 1588: low is nanoseconds below 1,000,000,000
   pub ieee1588 : rule ≡ 3 → time % 2 ^ 32 < 1000000000
 
--- an answer: its number, place 0, the room needed, and the state that is handed back
+-- an answer: its number, place 0, the room needed, and the state that is handed back. Written out: no definition of a refusal is cited
 abbrev pub says : ℕ → ℕ → Draft → StepTold
-says number room d = record { number = number; place = 0; room = room; draft = d }
+says number room d = record { refusal = record { number = number; place = 0; room = room }; draft = d }
 
 -- the used count with a block of n bytes more: a time stamp of 8 bytes where there is a rule, an ID word of 4, then n bytes, then one pad
 -- byte if n is odd

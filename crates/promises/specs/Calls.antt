@@ -6,9 +6,10 @@ use Prim.Native.Nat.{ℕ}
 use lib.ListN.{length}
 use Rattle.units.specs.Units.{bytesOf}
 use Rattle.body.specs.Blocks.{blockBytes}
-use Rattle.builder.specs.Build.{stamped, freshDraft, openStep, openWord, addStep, entryOf, closeStep, counterBytes, bufAfter}
+use Rattle.builder.specs.Build.{formOf, freshDraft, openStep, openWord, addStep, entryOf, closeStep, counterBytes, bufAfter}
 use Rattle.builder.specs.declared.Draft.{Draft}
 use Rattle.builder.specs.declared.Step.{Step}
+use Rattle.frame.specs.Contents.{contents}
 use Rattle.frame.specs.declared.Fields.{Fields}
 use Rattle.packet_bytes.specs.Bytes.{packetBytes}
 use Rattle.packet.specs.Read.{window, readPacket}
@@ -40,7 +41,7 @@ GiveMessage buf start end number r = r ≡ messagePacket buf start end number
 
 -- write_packet(fields, body, out): the output at entry, the result, and the output at exit
 abbrev pub WritePacket : Fields → List ℕ → List ℕ → PacketWrite → List ℕ → Type 0
-WritePacket fields body out₀ r out₁ = (r ≡ writePacket fields body (length out₀)) × (out₁ ≡ outAfter r out₀ (packetBytes fields body))
+WritePacket fields body out₀ r out₁ = (r ≡ writePacket (contents fields body) (length out₀)) × (out₁ ≡ outAfter r out₀ (packetBytes (contents fields body)))
 
 -- ---- the recording
 
@@ -61,7 +62,7 @@ Open d buf₀ kind rule r buf₁ = (r ≡ openStep d kind rule (length buf₀)) 
 -- add(self, buf, time, upper, bytes)
 abbrev pub Add : Draft → List ℕ → ℕ → ℕ → List ℕ → Step → List ℕ → Type 0
 Add d buf₀ time upper bytes r buf₁ =
-    (r ≡ addStep d (length buf₀) time (length bytes)) × (buf₁ ≡ bufAfter r buf₀ (d .used) (blockBytes (stamped (d .rule)) (entryOf time upper bytes)))
+    (r ≡ addStep d (length buf₀) time (length bytes)) × (buf₁ ≡ bufAfter r buf₀ (d .used) (blockBytes (formOf d) (entryOf time upper bytes)))
 
 -- close(self, buf)
 abbrev pub Close : Draft → List ℕ → Step → List ℕ → Type 0

@@ -4,14 +4,16 @@ use mathlib.Core.List.{List, [], _∷_, _++_}
 use Prim.Native.Nat.{ℕ, _+_, _*_, _^_}
 use lib.ListN.{length, set, replicate}
 use Rattle.units.specs.Units.{splice, field, bytesOf}
-use Rattle.body.specs.Walk.{refused}
+use Rattle.terms.specs.Refusals.{refused, noRefusal}
 use Rattle.body.specs.Blocks.{blockBytes}
-use Rattle.builder.specs.Build.{stamped, freshDraft, openStep, openWord, addStep, entryOf, bufAfter, stepTold}
+use Rattle.builder.specs.Build.{formOf, freshDraft, openStep, openWord, addStep, entryOf, bufAfter, stepTold}
 use Rattle.builder.specs.declared.Step.{Step}
 use Rattle.frame.specs.Header.{secondaryIn}
-use Rattle.packet.specs.Read.{partAt, readPacket, noRefusal, noPacket, PacketTold, packetTold}
+use Rattle.packet.specs.Read.{partAt, readPacket, noPacket, PacketTold, packetTold}
+use Rattle.frame.specs.Contents.{Contents}
+use Rattle.packet_bytes.specs.Bytes.{packetBytes}
 use Rattle.packet.specs.Write.{writePacket, WriteTold, writeTold}
-use Rattle.promises.specs.Contents.{Contents, packetOf, written}
+use Rattle.promises.specs.Contents.{written}
 
 -- a case: a window, and what the reader tells; contents, an output of `room` bytes, and what the writer tells; or bytes and the sum in
 -- their secondary header
@@ -22,7 +24,7 @@ pub data Case : Type 0 where
 
 abbrev pub Right : Case → Type 0
 Right (reads buf start end t) = packetTold (readPacket buf start end) ≡ t
-Right (writes c room t) = writeTold (writePacket (c .fields) (c .body) room) ≡ t
+Right (writes c room t) = writeTold (writePacket c room) ≡ t
 Right (secondarySum bytes sum) = field (secondaryIn bytes) 10 2 ≡ sum
 
 abbrev pub AllRight : List Case → Type 0
@@ -70,7 +72,7 @@ accepts flags time p «header_sum» secondary filler width «data_sum» =
 
 -- a refusal, at the packet's start
 abbrev refuses : ℕ → PacketTold
-refuses number = record { refusal = refused number 3 0; packet = noPacket }
+refuses number = record { refusal = refused number 3; packet = noPacket }
 
 -- flags of a secondary header with an IEEE 1588 time and no data sum; a time of 1 second and some nanoseconds
 abbrev pub flags1588 : ℕ
@@ -91,19 +93,19 @@ cases =
     ∷ reads (among (set L 13 1)) 3 43 (refuses 4)
     ∷ reads (among (set L 32 0x40)) 3 43 (refuses 13)
     -- L's body under an 8-bit sum: filler 3, sum 0xC9, P 40
-    ∷ reads (among (packetOf (lContents 1 0))) 3 43 (accepts 1 0 40 0x3B62 0 3 1 0xC9)
+    ∷ reads (among (packetBytes (lContents 1 0))) 3 43 (accepts 1 0 40 0x3B62 0 3 1 0xC9)
     -- under 32 bits: filler 0, sum 0x00434244, P 40
-    ∷ reads (among (packetOf (lContents 3 0))) 3 43 (accepts 3 0 40 0x3B64 0 0 4 0x00434244)
+    ∷ reads (among (packetBytes (lContents 3 0))) 3 43 (accepts 3 0 40 0x3B64 0 0 4 0x00434244)
     -- without: P 36
-    ∷ reads (among (packetOf (lContents 0 0))) 3 39 (accepts 0 0 36 0x3B5D 0 0 0 0)
+    ∷ reads (among (packetBytes (lContents 0 0))) 3 39 (accepts 0 0 36 0x3B5D 0 0 0 0)
     -- 1588 time of 1 s and 2 ns: secondary sum 3
-    ∷ secondarySum (packetOf (lContents flags1588 (second 2))) 3
-    ∷ reads (among (packetOf (lContents flags1588 (second 2)))) 3 51 (accepts flags1588 (second 2) 48 0x3BED 12 0 0 0)
+    ∷ secondarySum (packetBytes (lContents flags1588 (second 2))) 3
+    ∷ reads (among (packetBytes (lContents flags1588 (second 2)))) 3 51 (accepts flags1588 (second 2) 48 0x3BED 12 0 0 0)
     -- 999,999,999 ns is accepted, 1,000,000,000 is 12; by the writer too
-    ∷ reads (among (packetOf (lContents flags1588 (second 999999999)))) 3 51 (accepts flags1588 (second 999999999) 48 0x3BED 12 0 0 0)
-    ∷ reads (among (packetOf (lContents flags1588 (second 1000000000)))) 3 51 (refuses 12)
+    ∷ reads (among (packetBytes (lContents flags1588 (second 999999999)))) 3 51 (accepts flags1588 (second 999999999) 48 0x3BED 12 0 0 0)
+    ∷ reads (among (packetBytes (lContents flags1588 (second 1000000000)))) 3 51 (refuses 12)
     ∷ writes (lContents flags1588 (second 999999999)) 48 (record { refusal = noRefusal; length = 48 })
-    ∷ writes (lContents flags1588 (second 1000000000)) 48 (record { refusal = refused 12 0 0; length = 0 })
+    ∷ writes (lContents flags1588 (second 1000000000)) 48 (record { refusal = refused 12 0; length = 0 })
     ∷ []
 
 -- ---- a recording of three different packets
@@ -123,9 +125,9 @@ threeIn = replicate 5 0xFF ++ (written three ++ replicate 9 0x25)
 -- the same with two packets altered: a word of the second's time, and a unit of the third's body and filler
 unfoldable pub twoAltered : List ℕ
 twoAltered =
-    packetOf (lContents 2 0)
-    ++ (splice (packetOf (lContents flags1588 (second 2))) 24 (0x03 ∷ 0x00 ∷ [])
-    ++ (splice (packetOf carriedByte) 24 (0xAA ∷ 0x01 ∷ 0x00 ∷ 0x00 ∷ [])
+    packetBytes (lContents 2 0)
+    ++ (splice (packetBytes (lContents flags1588 (second 2))) 24 (0x03 ∷ 0x00 ∷ [])
+    ++ (splice (packetBytes carriedByte) 24 (0xAA ∷ 0x01 ∷ 0x00 ∷ 0x00 ∷ [])
     ++ []))
 
 -- ---- a packet of type 0x30 with a secondary header (bit 7), absolute message times (bit 6) and Chapter 4 times: one block of 3 bytes
@@ -158,4 +160,4 @@ unfoldable pub stepAdded : Step
 stepAdded = addStep (stepTold stepOpened .draft) 12 0 3
 
 unfoldable pub bufferAdded : List ℕ
-bufferAdded = bufAfter stepAdded bufferOpened (stepTold stepOpened .draft .used) (blockBytes (stamped (stepTold stepOpened .draft .rule)) (entryOf 0 0 block))
+bufferAdded = bufAfter stepAdded bufferOpened (stepTold stepOpened .draft .used) (blockBytes (formOf (stepTold stepOpened .draft)) (entryOf 0 0 block))

@@ -4,15 +4,10 @@ use mathlib.Core.List.{List, [], _∷_, _++_}
 use Prim.Native.Nat.{ℕ, _^_, _<_}
 use lib.ListN.{length}
 use Rattle.units.specs.Units.{Bytes, part}
-use Rattle.frame.specs.declared.Fields.{Fields}
+use Rattle.frame.specs.Contents.{Contents, contents}
 use Rattle.packet_bytes.specs.Bytes.{packetBytes}
 use Rattle.packet.specs.Write.{writePacket, outAfter, writeTold}
 use Rattle.packet.specs.declared.Packet.{Packet}
-
--- what a writer is given but for the output
-pub record Contents : Type 0 where
-  pub fields : Fields
-  pub body : List ℕ
 
 -- each is of the type that the call takes: channel u16; version, sequence, flags and type u8; RTC and time u64; the body bytes
 pub record Typed (c : Contents) : Type 0 where
@@ -25,19 +20,15 @@ pub record Typed (c : Contents) : Type 0 where
   pub time : c .fields .time < 2 ^ 64
   pub body : Bytes (c .body)
 
--- the packet's bytes
-abbrev pub packetOf : Contents → List ℕ
-packetOf c = packetBytes (c .fields) (c .body)
-
 -- the writer accepts: there is an output into which it writes
 pub record Accepts (c : Contents) : Type 0 where
   pub typed : Typed c
   pub room : ℕ
-  pub writes : writeTold (writePacket (c .fields) (c .body) room) .refusal .number ≡ 0
+  pub writes : writeTold (writePacket c room) .refusal .number ≡ 0
 
 -- the output after the writer was given c
 abbrev pub outputOf : Contents → List ℕ → List ℕ
-outputOf c out = outAfter (writePacket (c .fields) (c .body) (length out)) out (packetOf c)
+outputOf c out = outAfter (writePacket c (length out)) out (packetBytes c)
 
 -- any list of contents the writer accepts
 pub data AllAccepted : List Contents → Type 0 where
@@ -47,8 +38,8 @@ pub data AllAccepted : List Contents → Type 0 where
 -- written end to end
 unfoldable pub written : List Contents → List ℕ
 written [] = []
-written (c ∷ cs) = packetOf c ++ written cs
+written (c ∷ cs) = packetBytes c ++ written cs
 
 -- the contents of a packet that a reader tells of, in its buffer
 abbrev pub contentsOf : List ℕ → Packet → Contents
-contentsOf buf p = record { fields = p .fields; body = part buf (p .body .at) (p .body .length) }
+contentsOf buf p = contents (p .fields) (part buf (p .body .at) (p .body .length))

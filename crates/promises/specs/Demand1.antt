@@ -9,7 +9,8 @@ use Rattle.units.specs.Units.{Bytes, part}
 use Rattle.body.specs.Answers.{noMessage}
 use Rattle.builder.specs.Build.{bufAfter, stepTold}
 use Rattle.builder.specs.declared.Step.{Step}
-use Rattle.packet.specs.Read.{inside, window, readPacket, noRefusal, noPacket, packetTold}
+use Rattle.packet.specs.Read.{inside, window, readPacket, noPacket, packetTold}
+use Rattle.terms.specs.Refusals.{noRefusal}
 use Rattle.packet.specs.Messages.{listPacket, listAfter, starts, lengths, messagePacket, listTold, entries, messageTold}
 use Rattle.packet.specs.Write.{outAfter, writeTold}
 use Rattle.packet.specs.declared.Packet.{Packet}
@@ -17,6 +18,7 @@ use Rattle.packet.specs.declared.PacketList.{PacketList}
 use Rattle.packet.specs.declared.PacketWrite.{PacketWrite}
 use Rattle.recording.specs.Reading.{readRecording}
 use Rattle.recording.specs.Handed.{HandsOut}
+use Rattle.promises.specs.Refusals.{readerRefusals, listerRefusals, messageRefusals}
 use Rattle.promises.specs.Endings.{FromTable, Ends, readTold, listedTold, givenTold, Placed}
 
 -- the three calls on the packet at `start` say the same of two buffers, with these ends; the lists' entries too, whatever they held before
@@ -38,19 +40,19 @@ pub record Demand1 : Type 0 where
   -- "A read names a start and a filled end in a buffer. For every input it ends with a packet or one refusal from the table, number
   -- and place fixed." Fixed: no two outcomes satisfy what a call promises (proofs/Once.antt); which number: Document01.read-first.
 
-  -- the reader: a packet, or one of 1 to 15, and its place
-  pub read-ends : (buf : List ℕ) (start end : ℕ) → Ends 15 readTold noPacket (packetTold (readPacket buf start end))
+  -- the reader: a packet, or one of the reader's refusals, and its place
+  pub read-ends : (buf : List ℕ) (start end : ℕ) → Ends readerRefusals readTold noPacket (packetTold (readPacket buf start end))
   pub read-placed : (buf : List ℕ) → Bytes buf → (start end : ℕ) → packetTold (readPacket buf start end) .refusal .number ≢ 0
       → Placed buf start end (packetTold (readPacket buf start end) .refusal)
-  -- the lister, with lists of any length: a count, or one of 1 to 16
-  pub list-ends : (buf : List ℕ) (start end len₁ len₂ : ℕ) → Ends 16 listedTold 0 (listTold (listPacket buf start end len₁ len₂))
-  -- one message, of any number: it, or one of 1 to 17
-  pub message-ends : (buf : List ℕ) (start end number : ℕ) → Ends 17 givenTold noMessage (messageTold (messagePacket buf start end number))
-  -- a recording: at the exact end of a window in its buffer, or at a place where the reader gives that refusal, one of 1 to 15
+  -- the lister, with lists of any length: a count, or one of the reader's or 16
+  pub list-ends : (buf : List ℕ) (start end len₁ len₂ : ℕ) → Ends listerRefusals listedTold 0 (listTold (listPacket buf start end len₁ len₂))
+  -- one message, of any number: it, or one of the reader's or 17
+  pub message-ends : (buf : List ℕ) (start end number : ℕ) → Ends messageRefusals givenTold noMessage (messageTold (messagePacket buf start end number))
+  -- a recording: at the exact end of a window in its buffer, or at a place where the reader gives that refusal
   pub recording-ends : (buf : List ℕ) (start end : ℕ)
       → ((inside buf start end ≡ true) × (readRecording buf start end .reached ≡ end) × (readRecording buf start end .refusal ≡ noRefusal))
       ⊎ ((packetTold (readPacket buf (readRecording buf start end .reached) end) .refusal ≡ readRecording buf start end .refusal)
-      × FromTable 15 (readRecording buf start end .refusal))
+      × FromTable readerRefusals (readRecording buf start end .refusal))
   -- "Nothing outside that window changes the answer."
 
   -- two buffers that both reach to the end, with the same bytes from start to it
@@ -72,4 +74,4 @@ pub record Demand1 : Type 0 where
   -- "a refused call leaves all lent memory untouched": the lister's lists, the writer's output, the builder's buffer at each step
   pub lists-untouched : (r : PacketList) → listTold r .refusal .number ≢ 0 → (values : ℕ → ℕ) (old : List ℕ) → listAfter r values old ≡ old
   pub output-untouched : (r : PacketWrite) → writeTold r .refusal .number ≢ 0 → (old bytes : List ℕ) → outAfter r old bytes ≡ old
-  pub buffer-untouched : (r : Step) → stepTold r .number ≢ 0 → (old : List ℕ) (at : ℕ) (bytes : List ℕ) → bufAfter r old at bytes ≡ old
+  pub buffer-untouched : (r : Step) → stepTold r .refusal .number ≢ 0 → (old : List ℕ) (at : ℕ) (bytes : List ℕ) → bufAfter r old at bytes ≡ old

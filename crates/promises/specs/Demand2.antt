@@ -1,22 +1,24 @@
 -- Demand 2, sentence by sentence; proved in proofs/Demand2.antt (demand-2).
 use mathlib.Core.Path.{_≡_}
 use mathlib.Core.List.{List, _++_}
-use mathlib.Core.Logic.{_↔_, _⊎_, _≢_}
+use mathlib.Core.Logic.{_↔_}
 use Prim.Native.Nat.{ℕ, _+_, _≤_}
 use lib.ListN.{length, take}
 use Rattle.units.specs.Units.{Bytes, part}
-use Rattle.body.specs.Walk.{refused}
+use Rattle.terms.specs.Refusals.{refused, noRefusal}
 use Rattle.body.specs.Answers.{noMessage}
 use Rattle.body.specs.Blocks.{Entry}
 use Rattle.frame.specs.Header.{flagsIn, kindIn, bodyIn}
-use Rattle.packet.specs.Read.{window, readPacket, Together, noRefusal, packetTold}
+use Rattle.packet.specs.Read.{window, readPacket, Together, packetTold}
+use Rattle.frame.specs.Contents.{Contents}
 use Rattle.packet.specs.Messages.{listPacket, messagePacket, listTold, messageTold}
 use Rattle.packet.specs.Write.{writePacket, writeTold}
 use Rattle.packet.specs.declared.Part.{Part}
 use Rattle.packet.specs.declared.Packet.{Packet}
-use Rattle.promises.specs.Contents.{Contents, Typed, outputOf, contentsOf}
+use Rattle.promises.specs.Contents.{Typed, outputOf, contentsOf}
+use Rattle.promises.specs.Refusals.{OneOf}
 use Rattle.promises.specs.Endings.{readTold, listedTold, givenTold, writtenTold}
-use Rattle.promises.specs.Bodies.{BodyKept}
+use Rattle.promises.specs.Bodies.{openedTypes, BodyKept}
 use Rattle.promises.specs.Keeps.{Keeps}
 use Rattle.promises.specs.Reports.{PacketThere, Reports}
 
@@ -41,21 +43,21 @@ pub record Demand2 : Type 0 where
       ≡ bytesIn buf (p .header) ++ (bytesIn buf (p .secondary) ++ (bytesIn buf (p .body) ++ (bytesIn buf (p .filler) ++ bytesIn buf (p .sum)))))
   -- the messages of a type that we open are the blocks of its body, all of them, each where it stands
   pub messages-there : (buf : List ℕ) → Bytes buf → (start end : ℕ) (p : Packet) → packetTold (readPacket buf start end) ≡ readTold noRefusal p
-      → (kindIn (window buf start end) ≡ 0x30) ⊎ (kindIn (window buf start end) ≡ 0x50)
+      → OneOf (kindIn (window buf start end)) openedTypes
       → (es : List Entry) × (b : BodyKept (kindIn (window buf start end)) (flagsIn (window buf start end)) (bodyIn (window buf start end)) es)
-      × Reports buf start end es (b .stamped)
+      × Reports buf start end es (b .form)
   -- of any other type there are none
   pub carried-none : (buf : List ℕ) (start end : ℕ) (p : Packet) → packetTold (readPacket buf start end) ≡ readTold noRefusal p
-      → kindIn (window buf start end) ≢ 0x30 → kindIn (window buf start end) ≢ 0x50
+      → ¬ OneOf (kindIn (window buf start end)) openedTypes
       → ((len₁ len₂ : ℕ) → listTold (listPacket buf start end len₁ len₂) ≡ listedTold noRefusal 0)
-      × ((number : ℕ) → messageTold (messagePacket buf start end number) ≡ givenTold (refused 17 start 0) noMessage)
+      × ((number : ℕ) → messageTold (messagePacket buf start end number) ≡ givenTold (refused 17 start) noMessage)
   -- "What the writer writes reads back as given": the n bytes that it wrote into any output, at any place of any buffer, whatever
   -- stands around them
-  pub written-reads-back : (c : Contents) → Typed c → (out : List ℕ) (n : ℕ) → writeTold (writePacket (c .fields) (c .body) (length out)) ≡ writtenTold noRefusal n
+  pub written-reads-back : (c : Contents) → Typed c → (out : List ℕ) (n : ℕ) → writeTold (writePacket c (length out)) ≡ writtenTold noRefusal n
       → (buf : List ℕ) (start end : ℕ) → end ≤ length buf → start + n ≤ end → part buf start n ≡ take n (outputOf c out)
       → (p : Packet) × (packetTold (readPacket buf start end) ≡ readTold noRefusal p) × (contentsOf buf p ≡ c) × (p .length ≡ n)
   -- "and an accepted packet written again has the same bytes": its fields and body, into any output with room for it
   pub written-again : (buf : List ℕ) → Bytes buf → (start end : ℕ) (p : Packet) → packetTold (readPacket buf start end) ≡ readTold noRefusal p
       → (out : List ℕ) → p .length ≤ length out
-      → (writeTold (writePacket (p .fields) (bytesIn buf (p .body)) (length out)) ≡ writtenTold noRefusal (p .length))
+      → (writeTold (writePacket (contentsOf buf p) (length out)) ≡ writtenTold noRefusal (p .length))
       × (take (p .length) (outputOf (contentsOf buf p) out) ≡ part buf start (p .length))

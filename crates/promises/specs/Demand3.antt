@@ -5,9 +5,11 @@ use mathlib.Core.Logic.{_⊎_, _≢_}
 use Prim.Native.Nat.{ℕ, suc, _+_, _≤_, _<_}
 use lib.ListN.{length}
 use Rattle.units.specs.Units.{Bytes, splice}
-use Rattle.body.specs.Walk.{refused}
-use Rattle.packet.specs.Read.{window, noRefusal}
-use Rattle.promises.specs.Contents.{Contents, Typed, packetOf, Accepts, AllAccepted, written}
+use Rattle.terms.specs.Refusals.{refused, noRefusal}
+use Rattle.packet.specs.Read.{window}
+use Rattle.promises.specs.Contents.{Typed, Accepts, AllAccepted, written}
+use Rattle.frame.specs.Contents.{Contents}
+use Rattle.packet_bytes.specs.Bytes.{packetBytes}
 use Rattle.promises.specs.Altered.{bodyPlace, sumSize, UnitOf, Altered, Pieces, FirstAltered}
 use Rattle.promises.specs.ReadsAs.{ReadsAs}
 
@@ -25,11 +27,11 @@ pub record Demand3 : Type 0 where
   pub altered-list : (cs : List Contents) (k : ℕ) (bs : List ℕ) → Pieces cs k bs → 0 < k
       → (buf : List ℕ) (start end : ℕ) → start ≤ end → end ≤ length buf → window buf start end ≡ bs
       → (f : FirstAltered cs bs)
-      × ReadsAs buf start end (f .before) (start + length (written (f .before))) (refused (f .number) (start + length (written (f .before))) 0)
+      × ReadsAs buf start end (f .before) (start + length (written (f .before))) (refused (f .number) (start + length (written (f .before))))
   -- The same of packets as they were written, one altered, and anything at all behind it.
   pub stops-at-altered : (before : List Contents) → AllAccepted before → (c : Contents) → Accepts c → (n : ℕ) (ys : List ℕ) → Altered c n ys
       → (rest buf : List ℕ) (start end : ℕ) → start ≤ end → end ≤ length buf → window buf start end ≡ written before ++ (ys ++ rest)
-      → ReadsAs buf start end before (start + length (written before)) (refused n (start + length (written before)) 0)
+      → ReadsAs buf start end before (start + length (written before)) (refused n (start + length (written before)))
   -- There is one first altered packet.
   pub first-once : (cs : List Contents) (bs : List ℕ) (f g : FirstAltered cs bs)
       → (f .before ≡ g .before) × (f .first ≡ g .first) × (f .behind ≡ g .behind) × (f .number ≡ g .number)
@@ -41,7 +43,7 @@ pub record Demand3 : Type 0 where
   pub none-altered : (cs : List Contents) (bs : List ℕ) → Pieces cs 0 bs → AllAccepted cs × (bs ≡ written cs)
   -- any other bytes in the place of a unit's are an alteration;
   pub every-change-named : (c : Contents) → Typed c → (n at width : ℕ) → UnitOf c n at width → (new : List ℕ) → length new ≡ width → Bytes new
-      → splice (packetOf c) at new ≢ packetOf c → Altered c n (splice (packetOf c) at new)
+      → splice (packetBytes c) at new ≢ packetBytes c → Altered c n (splice (packetBytes c) at new)
   -- and each byte of both headers, and of body, filler and sum where a data sum is carried, lies in one of the units.
-  pub every-byte-named : (c : Contents) (i : ℕ) → i < length (packetOf c) → (i < bodyPlace c) ⊎ (0 < sumSize c)
+  pub every-byte-named : (c : Contents) (i : ℕ) → i < length (packetBytes c) → (i < bodyPlace c) ⊎ (0 < sumSize c)
       → (n : ℕ) × (at : ℕ) × (width : ℕ) × UnitOf c n at width × (at ≤ i) × (i < at + width)

@@ -6,26 +6,27 @@ use mathlib.Core.Logic.{_↔_, _≢_}
 use Prim.Native.Nat.{ℕ, _+_, _*_, _^_, _≤_, _<_}
 use lib.ListN.{length, drop}
 use Rattle.units.specs.Units.{Bytes}
-use Rattle.body.specs.Times.{ruleOf}
-use Rattle.body.specs.Walk.{refused}
+use Rattle.terms.specs.Times.{ruleOf}
+use Rattle.terms.specs.Refusals.{refused, noRefusal, needing}
 use Rattle.body.specs.Answers.{checkBody, noMessage}
 use Rattle.body.specs.Blocks.{Entry, entriesIn}
-use Rattle.body.specs.declared.Refusal.{Refusal}
-use Rattle.body.specs.declared.TimeRule.{TimeRule}
+use Rattle.terms.specs.declared.Refusal.{Refusal}
+use Rattle.terms.specs.declared.TimeRule.{TimeRule}
 use Rattle.body.specs.declared.Checked.the-variants.{Counted, Faulty}
 use Rattle.builder.specs.Build.{stamped, entryOf, closeStep, stepTold}
 use Rattle.builder.specs.Run.{Built, closedBody}
 use Rattle.builder.specs.declared.Draft.{Draft}
-use Rattle.frame.specs.Rules.{messageRule}
 use Rattle.frame.specs.Table.{first}
-use Rattle.frame.specs.declared.Fields.{Fields}
-use Rattle.packet.specs.Read.{window, readPacket, noRefusal, packetTold}
+use Rattle.packet.specs.Read.{window, readPacket, packetTold, contentsChecked}
+use Rattle.frame.specs.Contents.{Contents}
+use Rattle.packet_bytes.specs.Bytes.{packetBytes}
 use Rattle.packet.specs.Messages.{listPacket, messagePacket, listTold, messageTold}
 use Rattle.packet.specs.Write.{writePacket, writeTold}
 use Rattle.packet.specs.declared.Packet.{Packet}
 use Rattle.recording.specs.Reading.{readRecording}
 use Rattle.recording.specs.Handed.{HandsOut}
-use Rattle.promises.specs.Contents.{Contents, packetOf, Accepts, outputOf}
+use Rattle.promises.specs.Contents.{Accepts, outputOf}
+use Rattle.promises.specs.Refusals.{OneOf, readerRefusals, writerRefusals}
 use Rattle.promises.specs.Endings.{Ends, listedTold, givenTold, writtenTold}
 use Rattle.promises.specs.Keeps.{Rule}
 use Rattle.promises.specs.Building.{Building}
@@ -33,19 +34,18 @@ use Rattle.promises.specs.WriterOrder.{writerTable}
 
 -- the writer's answer where 17, 5 to 9 and 12 have nothing against it: 15 by the body, then 16 with the packet's length as room
 pub record WritesOrNot (c : Contents) (room : ℕ) : Type 0 where
-  pub faulty : (r : Refusal) → checkBody (c .fields .kind) (messageRule (c .fields .flags)) (c .body) ≡ Faulty r
-      → writeTold (writePacket (c .fields) (c .body) room) ≡ writtenTold (refused 15 0 0) 0
-  pub short : (n : ℕ) → checkBody (c .fields .kind) (messageRule (c .fields .flags)) (c .body) ≡ Counted n → room < length (packetOf c)
-      → writeTold (writePacket (c .fields) (c .body) room) ≡ writtenTold (refused 16 0 (length (packetOf c))) 0
-  pub fits : (n : ℕ) → checkBody (c .fields .kind) (messageRule (c .fields .flags)) (c .body) ≡ Counted n → length (packetOf c) ≤ room
-      → writeTold (writePacket (c .fields) (c .body) room) ≡ writtenTold noRefusal (length (packetOf c))
+  pub faulty : (r : Refusal) → contentsChecked c ≡ Faulty r → writeTold (writePacket c room) ≡ writtenTold (refused 15 0) 0
+  pub short : (n : ℕ) → contentsChecked c ≡ Counted n → room < length (packetBytes c)
+      → writeTold (writePacket c room) ≡ writtenTold (needing (length (packetBytes c)) (refused 16 0)) 0
+  pub fits : (n : ℕ) → contentsChecked c ≡ Counted n → length (packetBytes c) ≤ room
+      → writeTold (writePacket c room) ≡ writtenTold noRefusal (length (packetBytes c))
 
 pub record Document01 : Type 0 where
   -- "Tested from the top, save where a call's own order stands below; the first that applies is given, and none is given otherwise."
-  -- n is given exactly where the rules above it are kept and its own is not; 0, where all are: Demand2.accepted-exactly
-  pub read-first : (buf : List ℕ) → Bytes buf → (start end n : ℕ) → 1 ≤ n → n ≤ 15
+  -- n is given exactly where the rules before it are kept and its own is not; 0, where all are: Demand2.accepted-exactly
+  pub read-first : (buf : List ℕ) → Bytes buf → (start end : ℕ) (before : List ℕ) (n : ℕ) (after : List ℕ) → readerRefusals ≡ before ++ (n ∷ after)
       → (packetTold (readPacket buf start end) .refusal .number ≡ n)
-      ↔ (((m : ℕ) → 1 ≤ m → m < n → Rule buf start end (window buf start end) m) × (¬ Rule buf start end (window buf start end) n))
+      ↔ (((m : ℕ) → OneOf m before → Rule buf start end (window buf start end) m) × (¬ Rule buf start end (window buf start end) n))
   -- Lister: "After the reader's tests", and the second call too: a refusal of the reader is theirs, number, place and room
   pub list-as-read : (buf : List ℕ) (start end len₁ len₂ : ℕ) → packetTold (readPacket buf start end) .refusal .number ≢ 0
       → listTold (listPacket buf start end len₁ len₂) ≡ listedTold (packetTold (readPacket buf start end) .refusal) 0
@@ -59,18 +59,18 @@ pub record Document01 : Type 0 where
   pub builder-answers : Building
   -- "From a fresh state handed on step by step and closed last, the buffer untouched between, the body, at any size, reads back
   -- by the layout above and its time rule as the blocks added."
-  pub built-reads-back : (buf : List ℕ) (d : Draft) (es : List Entry) (rule : TimeRule) → Built buf d es → stepTold (closeStep d (length buf)) .number ≡ 0
+  pub built-reads-back : (buf : List ℕ) (d : Draft) (es : List Entry) (rule : TimeRule) → Built buf d es → stepTold (closeStep d (length buf)) .refusal .number ≡ 0
       → (stamped (d .rule) ≡ true → rule ≡ ruleOf (d .rule))
       → (checkBody (d .kind) rule (closedBody buf d) ≡ Counted (length es)) × (entriesIn (d .kind) rule (closedBody buf d) (length es) ≡ es)
   -- a block added is the time, the ID word made of its upper half and n, and the bytes, as given
   pub block-added : (time upper : ℕ) (bytes : List ℕ) → entryOf time upper bytes ≡ record { time = time; id = upper * 2 ^ 16 + length bytes; bytes = bytes }
   -- once a block is added, closing is not refused
-  pub built-closes : (buf : List ℕ) (d : Draft) (e : Entry) (es : List Entry) → Built buf d (e ∷ es) → stepTold (closeStep d (length buf)) .number ≡ 0
+  pub built-closes : (buf : List ℕ) (d : Draft) (e : Entry) (es : List Entry) → Built buf d (e ∷ es) → stepTold (closeStep d (length buf)) .refusal .number ≡ 0
   -- Writer: a length, or one refusal of the table's; "First 17 (..), then 5 to 9, 12 and 15 by the reader's rules, then 16."
-  pub write-ends : (f : Fields) (body : List ℕ) (room : ℕ) → Ends 17 writtenTold 0 (writeTold (writePacket f body room))
-  pub write-table : (f : Fields) (body : List ℕ) (room : ℕ) → first (writerTable f (length body)) ≢ 0
-      → writeTold (writePacket f body room) ≡ writtenTold (refused (first (writerTable f (length body))) 0 0) 0
+  pub write-ends : (c : Contents) (room : ℕ) → Ends writerRefusals writtenTold 0 (writeTold (writePacket c room))
+  pub write-table : (c : Contents) (room : ℕ) → first (writerTable (c .fields) (length (c .body))) ≢ 0
+      → writeTold (writePacket c room) ≡ writtenTold (refused (first (writerTable (c .fields) (length (c .body)))) 0) 0
   pub write-behind : (c : Contents) (room : ℕ) → first (writerTable (c .fields) (length (c .body))) ≡ 0 → WritesOrNot c room
   -- "Output behind the packet is untouched", and the packet's bytes are before it
-  pub written-there : (c : Contents) → Accepts c → (out : List ℕ) → length (packetOf c) ≤ length out
-      → outputOf c out ≡ packetOf c ++ drop (length (packetOf c)) out
+  pub written-there : (c : Contents) → Accepts c → (out : List ℕ) → length (packetBytes c) ≤ length out
+      → outputOf c out ≡ packetBytes c ++ drop (length (packetBytes c)) out

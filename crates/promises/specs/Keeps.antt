@@ -5,10 +5,12 @@ use mathlib.Core.List.{List, [], _∷_}
 use mathlib.Core.Logic.{_⊎_, _≢_}
 use Prim.Native.Nat.{ℕ, _+_, _-_, _*_, _/_, _%_, _^_, _≤_, _<_}
 use lib.ListN.{length, take, drop}
-use Rattle.units.specs.Units.{part, field, sumUnits, sumWidth}
+use Rattle.units.specs.Units.{part, field, sumUnits}
+use Rattle.frame.specs.Sums.{sumWidth}
 use Rattle.body.specs.Blocks.{Entry}
 use Rattle.frame.specs.Header.{byte}
-use Rattle.promises.specs.Bodies.{BodyKept}
+use Rattle.promises.specs.Refusals.{OneOf, readerRefusals}
+use Rattle.promises.specs.Bodies.{openedTypes, BodyKept}
 
 -- defined types: 0x00-0x04, 0x09, 0x0A, 0x11, 0x12, 0x19, 0x1A, 0x21, 0x29, 0x30, 0x38, 0x40-0x44, 0x48-0x4A, 0x50, 0x58, 0x59, 0x60,
 -- 0x68, 0x69, 0x70-0x72, 0x78-0x7A. That is 35; all others are reserved
@@ -16,11 +18,6 @@ abbrev pub definedTypes : List ℕ
 definedTypes =
     0x00 ∷ 0x01 ∷ 0x02 ∷ 0x03 ∷ 0x04 ∷ 0x09 ∷ 0x0A ∷ 0x11 ∷ 0x12 ∷ 0x19 ∷ 0x1A ∷ 0x21 ∷ 0x29 ∷ 0x30 ∷ 0x38 ∷ 0x40 ∷ 0x41 ∷ 0x42 ∷ 0x43 ∷ 0x44
     ∷ 0x48 ∷ 0x49 ∷ 0x4A ∷ 0x50 ∷ 0x58 ∷ 0x59 ∷ 0x60 ∷ 0x68 ∷ 0x69 ∷ 0x70 ∷ 0x71 ∷ 0x72 ∷ 0x78 ∷ 0x79 ∷ 0x7A ∷ []
-
--- k is one of these
-abbrev pub OneOf : ℕ → List ℕ → Type 0
-OneOf k [] = ⊥
-OneOf k (t ∷ ts) = (k ≡ t) ⊎ OneOf k ts
 
 -- the fields that the rules speak of (11.2.1.1), in a window's bytes w
 
@@ -97,8 +94,8 @@ pub data Rule (buf : List ℕ) (start end : ℕ) (w : List ℕ) : ℕ → Type 0
   -- 14: filler bytes, from behind the body to the sum, are zero
   filler : ((i : ℕ) → body w + D w ≤ i → i < P w - width w → byte w i ≡ 0) → Rule buf start end w 14
   -- 15: a body of a type that we open is its channel word and the blocks of some messages
-  messages : ((type w ≡ 0x30) ⊎ (type w ≡ 0x50) → (es : List Entry) × BodyKept (type w) (flags w) (part w (body w) (D w)) es) → Rule buf start end w 15
+  messages : (OneOf (type w) openedTypes → (es : List Entry) × BodyKept (type w) (flags w) (part w (body w) (D w)) es) → Rule buf start end w 15
 
 -- every rule is kept
 abbrev pub Keeps : List ℕ → ℕ → ℕ → List ℕ → Type 0
-Keeps buf start end w = (n : ℕ) → 1 ≤ n → n ≤ 15 → Rule buf start end w n
+Keeps buf start end w = (n : ℕ) → OneOf n readerRefusals → Rule buf start end w n

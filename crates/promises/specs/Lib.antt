@@ -1,5 +1,6 @@
 pub mod Calls
 pub mod Contents
+pub mod Refusals
 pub mod Endings
 pub mod Bodies
 pub mod Keeps

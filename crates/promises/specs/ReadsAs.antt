@@ -3,12 +3,13 @@ use mathlib.Core.Path.{_≡_}
 use mathlib.Core.List.{List, map}
 use Prim.Native.Nat.{ℕ}
 use lib.ListN.{length}
-use Rattle.body.specs.declared.Refusal.{Refusal}
+use Rattle.terms.specs.declared.Refusal.{Refusal}
+use Rattle.frame.specs.Contents.{Contents}
 use Rattle.packet.specs.declared.Packet.{Packet}
 use Rattle.recording.specs.Reading.{readRecording}
 use Rattle.recording.specs.Handed.{HandsOut}
 use Rattle.recording.specs.declared.Recording.{Recording}
-use Rattle.promises.specs.Contents.{Contents, contentsOf}
+use Rattle.promises.specs.Contents.{contentsOf}
 
 -- the answer to a recording that is handed out as cs, to this place and with this refusal
 abbrev pub answered : List Contents → ℕ → Refusal → Recording

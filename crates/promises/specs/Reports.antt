@@ -1,16 +1,17 @@
 -- What the calls report of an accepted packet, its parts and its messages, is what is there (demand 2).
 use mathlib.Core.Path.{_≡_}
 use mathlib.Core.List.{List}
-use mathlib.Core.Bool.{Bool}
 use Prim.Native.Nat.{ℕ, _+_, _-_, _*_, _/_, _%_, _^_, _≤_, _<_, min}
 use lib.ListN.{length, take, getD}
-use Rattle.units.specs.Units.{part, field, sumWidth}
-use Rattle.body.specs.Walk.{refused}
+use Rattle.units.specs.Units.{part, field}
+use Rattle.frame.specs.Sums.{sumWidth}
+use Rattle.terms.specs.Refusals.{refused, noRefusal, needing}
 use Rattle.body.specs.Answers.{noMessage}
 use Rattle.body.specs.Blocks.{Entry, noEntry, blocksBytes, messageOn}
+use Rattle.body.specs.declared.Form.{Form}
 use Rattle.body.specs.declared.Message.{Message}
 use Rattle.frame.specs.Header.{byte, flagsIn, bodyAt}
-use Rattle.packet.specs.Read.{window, partAt, noRefusal}
+use Rattle.packet.specs.Read.{window, partAt}
 use Rattle.packet.specs.declared.Packet.{Packet}
 use Rattle.packet.specs.Messages.{listPacket, listAfter, starts, lengths, messagePacket, listTold, messageTold}
 use Rattle.promises.specs.Endings.{listedTold, givenTold}
@@ -41,25 +42,25 @@ pub record PacketThere (w : List ℕ) (at : ℕ) (p : Packet) : Type 0 where
   pub sum : p .sum ≡ partAt (at + (field w 4 4 - sumWidth (byte w 14 % 4))) (sumWidth (byte w 14 % 4))
 
 -- the k-th of some blocks as a message, its start counted from the packet's first byte: behind the channel word and the blocks before it
-abbrev pub messageFor : ℕ → Bool → List Entry → ℕ → Message
-messageFor flags stamped es k = messageOn stamped (bodyAt flags + 4 + length (blocksBytes stamped (take k es))) (getD es k noEntry)
+abbrev pub messageFor : ℕ → Form → List Entry → ℕ → Message
+messageFor flags form es k = messageOn form (bodyAt flags + 4 + length (blocksBytes form (take k es))) (getD es k noEntry)
 
 -- of the packet at the start of a window, whose body is its channel word and these blocks, with time stamps or without, the calls report
 -- these, and nothing else
-pub record Reports (buf : List ℕ) (start end : ℕ) (es : List Entry) (stamped : Bool) : Type 0 where
+pub record Reports (buf : List ℕ) (start end : ℕ) (es : List Entry) (form : Form) : Type 0 where
   -- the lister counts them, or says how many there are
   pub counted : (len₁ len₂ : ℕ) → length es ≤ min len₁ len₂ → listTold (listPacket buf start end len₁ len₂) ≡ listedTold noRefusal (length es)
-  pub crowded : (len₁ len₂ : ℕ) → min len₁ len₂ < length es → listTold (listPacket buf start end len₁ len₂) ≡ listedTold (refused 16 start (length es)) 0
+  pub crowded : (len₁ len₂ : ℕ) → min len₁ len₂ < length es → listTold (listPacket buf start end len₁ len₂) ≡ listedTold (needing (length es) (refused 16 start)) 0
   -- and its two lists hold the start and the length of each
   pub listed : (starts₀ lengths₀ : List ℕ) (k : ℕ) → k < length es → length es ≤ min (length starts₀) (length lengths₀)
       → (getD (listAfter (listPacket buf start end (length starts₀) (length lengths₀)) (starts (window buf start end)) starts₀) k 0
-      ≡ messageFor (flagsIn (window buf start end)) stamped es k .start)
+      ≡ messageFor (flagsIn (window buf start end)) form es k .start)
       × (getD (listAfter (listPacket buf start end (length starts₀) (length lengths₀)) (lengths (window buf start end)) lengths₀) k 0
-      ≡ messageFor (flagsIn (window buf start end)) stamped es k .length)
+      ≡ messageFor (flagsIn (window buf start end)) form es k .length)
   -- each is given by its number, and no other
   pub given : (k : ℕ) → k < length es
-      → messageTold (messagePacket buf start end k) ≡ givenTold noRefusal (messageFor (flagsIn (window buf start end)) stamped es k)
-  pub missing : (k : ℕ) → length es ≤ k → messageTold (messagePacket buf start end k) ≡ givenTold (refused 17 start 0) noMessage
+      → messageTold (messagePacket buf start end k) ≡ givenTold noRefusal (messageFor (flagsIn (window buf start end)) form es k)
+  pub missing : (k : ℕ) → length es ≤ k → messageTold (messagePacket buf start end k) ≡ givenTold (refused 17 start) noMessage
   -- and its bytes are in the buffer, at that start and of that length
   pub bytes : (k : ℕ) → k < length es
-      → part buf (start + messageFor (flagsIn (window buf start end)) stamped es k .start) (length (getD es k noEntry .bytes)) ≡ getD es k noEntry .bytes
+      → part buf (start + messageFor (flagsIn (window buf start end)) form es k .start) (length (getD es k noEntry .bytes)) ≡ getD es k noEntry .bytes

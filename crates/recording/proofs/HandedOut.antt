@@ -9,21 +9,20 @@ use native.Mathlib.Nat.{add-zero, add-assoc}
 use lib.ListN.{length, take, drop, getD}
 use lib.Seq.{drop-drop}
 use lib.Dec.{leb}
-use borrow.Author.Tests.{le-leb, leb-true, leb-false}
+use borrow.Author.Tests.{leb-true, leb-false}
 use Rattle.units.specs.Choice.{pick}
-use Rattle.units.proofs.Choices.{and-true}
 use Rattle.units.proofs.Parts.{drop-take}
-use Rattle.body.specs.Walk.{refused}
-use Rattle.body.specs.declared.Refusal.{Refusal}
+use Rattle.terms.specs.Refusals.{refused, noRefusal}
+use Rattle.terms.specs.declared.Refusal.{Refusal}
 use Rattle.frame.specs.Table.{frameLines}
 use Rattle.frame.proofs.Tables.{stands}
-use Rattle.packet.specs.Read.{inside, window, outerLines, outerRefusal, readPacket, noRefusal, noPacket, PacketTold, packetTold}
+use Rattle.packet.specs.Read.{inside, window, outerLines, outerRefusal, readPacket, noPacket, PacketTold, packetTold}
 use Rattle.packet.specs.declared.Packet.{Packet}
 use Rattle.packet.specs.declared.PacketRead.{PacketRead}
 use Rattle.packet.specs.declared.PacketRead.the-variants.{Accepted, Refused}
 use Rattle.packet.proofs.Own.{accepted-fits}
-use Rattle.packet.proofs.Answers.{read-refused}
-use Rattle.packet.proofs.Told.{read-told, read-numbered}
+use Rattle.packet.proofs.Answers.{inside-says, inside-same, read-refused}
+use Rattle.packet.proofs.Told.{read-told, refusal-numbered}
 use Rattle.packet.proofs.Window.{read-window}
 use Rattle.recording.specs.Reading.{Reading, stopped, ahead, onward, readFrom, reading, readRecording}
 use Rattle.recording.specs.Handed.{lengthOf, HandsOut}
@@ -45,13 +44,6 @@ record HandedFrom (buf : List ℕ) (at end : ℕ) (r : Reading) : Type 0 where
       ⊎ ((packetTold (readPacket buf (r .reached) end) .refusal ≡ r .refusal) × (r .refusal .number ≢ 0) × (r .reached < end))
 
 module _ (buf : List ℕ) (end : ℕ) where
-  -- a refusal of the reader has a number
-  numbered : (at : ℕ) (r : Refusal) → readPacket buf at end ≡ Refused r → r .number ≢ 0
-  numbered at r q z =
-      let p = read-told buf at end (ap (λ (x : PacketRead). packetTold x .refusal .number) q ∙ z) in
-      let contrary : _≡_ {A = ℕ} 0 1 = cc (sym q ∙ p) in
-      omega arith
-
   handed-end : (at : ℕ) → at ≡ end → HandedFrom buf at end (stopped at noRefusal)
   unfolding lengthOf
   handed-end at h = record { each = λ i l. absurd (omega arith); covers = sym (add-zero at); ends = inl (h, refl) }
@@ -62,7 +54,7 @@ module _ (buf : List ℕ) (end : ℕ) where
       record {
         each = λ i l. absurd (omega arith);
         covers = sym (add-zero at);
-        ends = inr (ap (λ (x : PacketRead). packetTold x .refusal) q, numbered at r q, h);
+        ends = inr (ap (λ (x : PacketRead). packetTold x .refusal) q, refusal-numbered buf at end r q, h);
       }
 
   handed-on : (at : ℕ) (p : Packet) (r : Reading) → readPacket buf at end ≡ Accepted p → HandedFrom buf (at + p .length) end r
@@ -131,7 +123,7 @@ abbrev readingOf : List Packet → Recording → Reading
 readingOf ps r = record { packets = ps; reached = r .reached; refusal = r .refusal }
 
 module _ (buf : List ℕ) (s e : ℕ) where
-  read-outside : inside buf s e ≡ false → readPacket buf s e ≡ Refused (refused 1 s 0)
+  read-outside : inside buf s e ≡ false → readPacket buf s e ≡ Refused (refused 1 s)
   unfolding outerRefusal outerLines
   read-outside o = sym (read-refused buf s e 1 (stands 1 (frameLines (window buf s e)) o) _ (λ (z : 1 ≡ 0). omega arith) refl)
 
@@ -144,7 +136,7 @@ module _ (buf : List ℕ) (s e : ℕ) where
         ends = ⊎-elim (λ f. inl (i, f .0, f .1)) (λ f. inr (f .0, f .1, λ t. f .2)) (h .ends);
       }
 
-  hands-outside : inside buf s e ≡ false → HandsOut buf s e (answer (stopped s (refused 1 s 0))) []
+  hands-outside : inside buf s e ≡ false → HandsOut buf s e (answer (stopped s (refused 1 s))) []
   unfolding lengthOf
   hands-outside o =
       record {
@@ -165,18 +157,17 @@ module _ (buf : List ℕ) (s e : ℕ) where
     where
       go : (t : Bool) → inside buf s e ≡ t → HandsOut buf s e (answer (reading buf s e)) (reading buf s e .packets)
       go true i =
-          let o = and-true (leb s e) (leb e (length buf)) i in
-          rw (reading-inside buf s e i) (hands-inside i (from buf s e) (handed-to buf e (e - s) s (omega arith) (leb-true s e (o .0))))
+          rw (reading-inside buf s e i) (hands-inside i (from buf s e) (handed-to buf e (e - s) s (omega arith) (inside-says buf s e i .0)))
       go false o = rw (reading-outside buf s e o) (hands-outside o)
 
-  once-outside : inside buf s e ≡ false → (ps : List Packet) (r : Recording) → HandsOut buf s e r ps → readingOf ps r ≡ stopped s (refused 1 s 0)
+  once-outside : inside buf s e ≡ false → (ps : List Packet) (r : Recording) → HandsOut buf s e r ps → readingOf ps r ≡ stopped s (refused 1 s)
   unfolding lengthOf
   once-outside o [] r h =
       let here : r .reached ≡ s = h .covers ∙ add-zero s in
       ⊎-elim
       (λ f. absurd (true≢false (sym (f .0) ∙ o)))
       (λ f.
-      let said : r .refusal ≡ refused 1 s 0 = sym (f .0) ∙ rw (here, read-outside o) in
+      let said : r .refusal ≡ refused 1 s = sym (f .0) ∙ rw (here, read-outside o) in
       λ i. record { packets = []; reached = here i; refusal = said i })
       (h .ends)
   once-outside o (p ∷ ps) r h =
@@ -203,10 +194,6 @@ module _ (buf : List ℕ) (s e : ℕ) where
       let q = once-read ps r h in
       ((λ i. record { accepted = h .number i; reached = r .reached; refusal = r .refusal }) ∙ ap answer q, ap (λ (x : Reading). x .packets) q)
 
-  pub recording-numbered : readRecording buf s e .refusal .number ≤ 15
-  recording-numbered =
-      ⊎-elim (λ f. rw (f .2) (omega arith)) (λ f. rw (← f .0) (read-numbered buf (readRecording buf s e .reached) e)) (hands-out .ends)
-
 -- ---- the window
 
 -- what stands behind the first n bytes of a window
@@ -230,7 +217,7 @@ module _ (a b : List ℕ) (e : ℕ) (in-a : e ≤ length a) (in-b : e ≤ length
 module _ (a b : List ℕ) (s e : ℕ) (in-a : e ≤ length a) (in-b : e ≤ length b) (same : window a s e ≡ window b s e) where
   pub reading-window : reading a s e ≡ reading b s e
   unfolding reading
-  reading-window = rw (le-leb e (length a) in-a, le-leb e (length b) in-b, from-window a b e in-a in-b (e - s) s same)
+  reading-window = rw (inside-same a b s e in-a in-b, from-window a b e in-a in-b (e - s) s same)
 
   pub recording-window : readRecording a s e ≡ readRecording b s e
   unfolding readRecording

@@ -9,15 +9,15 @@ use lib.ListN.{length}
 use lib.Dec.{leb}
 use borrow.Author.Tests.{le-leb, lt-leb}
 use Rattle.units.specs.Choice.{pick}
-use Rattle.body.specs.Walk.{refused}
-use Rattle.body.specs.declared.Refusal.{Refusal}
-use Rattle.packet.specs.Read.{inside, readPacket, noRefusal}
+use Rattle.terms.specs.Refusals.{refused, noRefusal}
+use Rattle.terms.specs.declared.Refusal.{Refusal}
+use Rattle.packet.specs.Read.{inside, readPacket}
 use Rattle.packet.specs.inner.Passes.{passOf}
 use Rattle.packet.specs.declared.Packet.{Packet}
 use Rattle.packet.specs.declared.PacketRead.{PacketRead}
 use Rattle.packet.specs.declared.PacketRead.the-variants.{Accepted, Refused}
 use Rattle.packet.specs.declared.PacketPass.the-variants.{Passed}
-use Rattle.packet.proofs.Answers.{passed-is}
+use Rattle.packet.proofs.Answers.{inside-says, passed-is}
 use Rattle.packet.proofs.Own.{accepted-fits}
 use Rattle.recording.specs.Reading.{Reading, stopped, ahead, onward, readFrom, reading, readRecording}
 use Rattle.recording.specs.declared.Recording.{Recording}
@@ -71,20 +71,11 @@ module _ (buf : List ℕ) (at end : ℕ) where
 -- ---- from the start
 
 module _ (buf : List ℕ) (start end : ℕ) where
-  pub inside-of : start ≤ end → end ≤ length buf → inside buf start end ≡ true
-  inside-of h within = rw (le-leb start end h, le-leb end (length buf) within)
-
-  pub outside-disordered : end < start → inside buf start end ≡ false
-  outside-disordered h = rw (lt-leb start end h)
-
-  pub outside-past : start ≤ end → length buf < end → inside buf start end ≡ false
-  outside-past h past = rw (le-leb start end h, lt-leb end (length buf) past)
-
   pub reading-inside : inside buf start end ≡ true → reading buf start end ≡ from buf start end
   unfolding reading
   reading-inside i = rw i
 
-  pub reading-outside : inside buf start end ≡ false → reading buf start end ≡ stopped start (refused 1 start 0)
+  pub reading-outside : inside buf start end ≡ false → reading buf start end ≡ stopped start (refused 1 start)
   unfolding reading
   reading-outside i = rw i
 
@@ -106,13 +97,13 @@ module _ (buf : List ℕ) (start end : ℕ) where
   recording-tallied r q = rw q (λ i. record { accepted = sym (zero-add (length (r .packets))) i; reached = r .reached; refusal = r .refusal })
 
   -- r is the code's refusal
-  pub recording-outside : (r : Refusal) → inside buf start end ≡ false → r ≡ refused 1 start 0
+  pub recording-outside : (r : Refusal) → inside buf start end ≡ false → r ≡ refused 1 start
       → record { accepted = 0; reached = start; refusal = r } ≡ readRecording buf start end
   recording-outside r i q = rw q (sym (recording-tallied _ (reading-outside buf start end i)))
 
-  pub tally-first : start ≤ end → end ≤ length buf → Tally buf start end 0 start
-  tally-first h within =
-      record { within = h; fewer = omega arith; answer = recording-tallied _ (reading-inside buf start end (inside-of buf start end h within)) }
+  pub tally-first : inside buf start end ≡ true → Tally buf start end 0 start
+  tally-first i =
+      record { within = inside-says buf start end i .0; fewer = omega arith; answer = recording-tallied _ (reading-inside buf start end i) }
 
   module _ (n at : ℕ) (c : Tally buf start end n at) where
     pub tally-on : (p : Packet) → at < end → readPacket buf at end ≡ Accepted p → Tally buf start end (n + 1) (at + p .length)

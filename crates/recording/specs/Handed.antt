@@ -5,7 +5,8 @@ use mathlib.Core.Bool.{true}
 use mathlib.Core.Logic.{_⊎_, _≢_}
 use Prim.Native.Nat.{ℕ, _+_, _<_}
 use lib.ListN.{length, take, getD}
-use Rattle.packet.specs.Read.{inside, readPacket, noRefusal, noPacket, packetTold}
+use Rattle.packet.specs.Read.{inside, readPacket, noPacket, packetTold}
+use Rattle.terms.specs.Refusals.{noRefusal}
 use Rattle.packet.specs.declared.Packet.{Packet}
 use Rattle.recording.specs.declared.Recording.{Recording}
 

@@ -5,9 +5,9 @@ use Prim.Native.Nat.{ℕ, zero, suc, _+_, _-_}
 use lib.ListN.{length}
 use lib.Dec.{leb}
 use Rattle.units.specs.Choice.{pick}
-use Rattle.body.specs.Walk.{refused}
-use Rattle.body.specs.declared.Refusal.{Refusal}
-use Rattle.packet.specs.Read.{inside, readPacket, noRefusal}
+use Rattle.terms.specs.Refusals.{refused, noRefusal}
+use Rattle.terms.specs.declared.Refusal.{Refusal}
+use Rattle.packet.specs.Read.{inside, readPacket}
 use Rattle.packet.specs.declared.Packet.{Packet}
 use Rattle.packet.specs.declared.PacketRead.{PacketRead}
 use Rattle.packet.specs.declared.PacketRead.the-variants.{Accepted, Refused}
@@ -42,7 +42,7 @@ readFrom (suc turns) buf at end =
 
 -- from the start; 1 where the window is outside its buffer
 unfoldable pub reading : List ℕ → ℕ → ℕ → Reading
-reading buf start end = pick (not (inside buf start end)) (stopped start (refused 1 start 0)) (readFrom (end - start) buf start end)
+reading buf start end = pick (not (inside buf start end)) (stopped start (refused 1 start)) (readFrom (end - start) buf start end)
 
 -- the answer, never zeroed: the number accepted, the place reached and the refusal there
 unfoldable pub readRecording : List ℕ → ℕ → ℕ → Recording

@@ -1,10 +1,12 @@
 // A whole recording: packets one behind the other in a window.
 ghost use mathlib.Core.Path.{_≡_};
 ghost use Rattle.recording.specs.Reading.{readRecording};
-use body::Refusal;
-use body::refuse;
 use packet::PacketPass;
+use packet::inside;
 use packet::pass_packet;
+use terms::Refusal;
+use terms::no_refusal;
+use terms::refuse;
 
 // What the reading of a recording gives, never zeroed: the number of packets accepted, the place reached (the first byte of the
 // refused packet, or the end), and the refusal as the one-packet reader gave it, with its own place; all 0 at the exact end.
@@ -19,11 +21,11 @@ pub struct Recording {
 pub fn read_recording(buf: &[u8], start: usize, end: usize) -> Recording
     ensures { λ r. ⌜ r ≡ readRecording (now (buf .entry)) start end ⌝ }
 {
-    if end < start || buf.len() < end {
+    if !inside(buf, start, end) {
         return Recording {
             accepted: 0,
             reached: start,
-            refusal: refuse(1, start, 0),
+            refusal: refuse(1, start),
         };
     }
     let mut accepted = 0;
@@ -46,6 +48,6 @@ pub fn read_recording(buf: &[u8], start: usize, end: usize) -> Recording
     Recording {
         accepted,
         reached: at,
-        refusal: refuse(0, 0, 0),
+        refusal: no_refusal(),
     }
 }

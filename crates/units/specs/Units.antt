@@ -54,25 +54,6 @@ sumUnits w (suc k) bs = num (take w bs) + sumUnits w k (drop w bs)
 abbrev pub checksum : ℕ → ℕ → List ℕ → ℕ
 checksum w k bs = sumUnits w k bs % 256 ^ w
 
--- the sum of the eleven 16-bit words ahead of it (11.2.1.1)
-abbrev pub headerSum : List ℕ → ℕ
-headerSum bs = checksum 2 11 bs
-
--- the sum of the five 16-bit words before it (secondary header)
-abbrev pub secondarySum : List ℕ → ℕ
-secondarySum bs = checksum 2 5 bs
-
--- the data sum's width in bytes, by bits 1-0 of the flags: none, 8, 16 or 32 bits
-abbrev pub sumWidth : ℕ → ℕ
-sumWidth zero = 0
-sumWidth (suc zero) = 1
-sumWidth (suc (suc zero)) = 2
-sumWidth (suc (suc (suc n))) = 4
-
--- body and filler in units of the sum's own width (trailer)
-abbrev pub dataSum : ℕ → List ℕ → ℕ
-dataSum code bs = checksum (sumWidth code) (length bs / sumWidth code) bs
-
 -- ---- a sum that stands behind what it adds up
 
 -- whether the unit behind the first k units of w bytes is their sum

@@ -2,7 +2,7 @@
 ghost use mathlib.Core.Path.{_≡_};
 ghost use Prim.Native.Nat.{_+_, _*_, _<_, _≤_};
 ghost use lib.ListN.{length, replicate};
-ghost use Rattle.units.specs.Units.{field, bytesOf, splice, checksum, headerSum, secondarySum, dataSum, zeros};
+ghost use Rattle.units.specs.Units.{field, bytesOf, splice, checksum, zeros};
 
 // A byte as a wider number that is known to stay below 256.
 fn wide(x: u8) -> u16
@@ -154,25 +154,9 @@ pub fn sum32(s: &[u8], n: usize) -> u32
     acc
 }
 
-// The sum of the eleven words of a primary header ahead of its own (11.2.1.1).
-pub fn header_sum(header: &[u8]) -> u16
-    requires { ⌜ 24 ≤ length (now header) ⌝ }
-    ensures { λ r. ⌜ r ≡ headerSum (now (header .entry)) ⌝ }
-{
-    sum16(header, 11)
-}
-
-// The sum of the five words of a secondary header before its own.
-pub fn secondary_sum(header: &[u8]) -> u16
-    requires { ⌜ 12 ≤ length (now header) ⌝ }
-    ensures { λ r. ⌜ r ≡ secondarySum (now (header .entry)) ⌝ }
-{
-    sum16(header, 5)
-}
-
 // The same sums of many units. What fills no whole line of 256 bytes is added first; the rest are four lanes of equal length, one
 // behind the other, added side by side: the compiler makes one vector loop of them, 128 bytes a turn.
-fn lanes8(s: &[u8], n: usize) -> u8
+pub fn lanes8(s: &[u8], n: usize) -> u8
     requires { ⌜ n ≤ length (now s) ⌝ }
     ensures { λ r. ⌜ r ≡ checksum 1 n (now (s .entry)) ⌝ }
 {
@@ -188,7 +172,7 @@ fn lanes8(s: &[u8], n: usize) -> u8
     acc
 }
 
-fn lanes16(s: &[u8], n: usize) -> u16
+pub fn lanes16(s: &[u8], n: usize) -> u16
     requires { ⌜ 2 * n ≤ length (now s) ⌝ }
     ensures { λ r. ⌜ r ≡ checksum 2 n (now (s .entry)) ⌝ }
 {
@@ -204,7 +188,7 @@ fn lanes16(s: &[u8], n: usize) -> u16
     acc
 }
 
-fn lanes32(s: &[u8], n: usize) -> u32
+pub fn lanes32(s: &[u8], n: usize) -> u32
     requires { ⌜ 4 * n ≤ length (now s) ⌝ }
     ensures { λ r. ⌜ r ≡ checksum 4 n (now (s .entry)) ⌝ }
 {
@@ -218,29 +202,4 @@ fn lanes32(s: &[u8], n: usize) -> u32
         acc = std::num::wrapping_add_u32(acc, read32(s, 4 * (i + 3 * lane)));
     }
     acc
-}
-
-// The data sum of body and filler by bits 1-0 of the flags: none (0), 8, 16 or 32 bits.
-// `[0..]` keeps the slice in registers (docs/DECISIONS.md, "Speed").
-pub fn data_sum(s: &[u8], code: u8) -> u32
-    requires { ⌜ code < 4 ⌝ }
-    ensures { λ r. ⌜ r ≡ dataSum code (now (s .entry)) ⌝ }
-{
-    sum_of(&s[0..], code)
-}
-
-fn sum_of(s: &[u8], code: u8) -> u32
-    requires { ⌜ code < 4 ⌝ }
-    ensures { λ r. ⌜ r ≡ dataSum code (now (s .entry)) ⌝ }
-{
-    if 2 <= code {
-        if code == 2 {
-            return lanes16(s, s.len() / 2) as u32;
-        }
-        return lanes32(s, s.len() / 4);
-    }
-    if code == 0 {
-        return 0;
-    }
-    lanes8(s, s.len()) as u32
 }

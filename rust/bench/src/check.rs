@@ -3,8 +3,7 @@ use crate::as_raw;
 use crate::inputs::{Call, Input};
 use crate::library;
 use crate::same;
-use crate::sides::given;
-use ch11::raw;
+use ch11::{raw, Reason};
 use std::sync::atomic::{AtomicU32, Ordering};
 
 /// The refusals that came up, a bit for each number.
@@ -30,10 +29,11 @@ pub fn check(input: &Input) {
     }
 }
 
-/// Ends the run unless each of the refusals 1 to 17 came up in the checks before.
+/// Ends the run unless each refusal that has a name came up in the checks before.
 pub fn all_refusals_seen() {
     let seen = SEEN.load(Ordering::Relaxed);
-    for number in 1..=17 {
+    let has_name = |number: &u64| Reason::from_number(*number) != Reason::Other(*number);
+    for number in (1..u32::BITS.into()).filter(has_name) {
         assert!(seen >> number & 1 == 1, "refusal {} came up", number);
     }
 }
@@ -202,7 +202,7 @@ fn compare_output(fields: &raw::Fields, body: &[u8], room: usize) -> raw::Writte
     let (mut out, mut written) = (vec![UNTOUCHED; room], raw::Written::default());
     library::write_packet(fields, body, &mut out, &mut written);
     let mut same_out = vec![UNTOUCHED; room];
-    let answer = as_raw::written(same::write_packet(&given(fields), body, &mut same_out));
+    let answer = as_raw::written(same::write_packet(fields, body, &mut same_out));
     assert_eq!(written, answer, "{:?}", fields);
     note(&written.refusal);
     assert!(out == same_out, "the output for {:?}", fields);

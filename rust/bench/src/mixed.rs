@@ -1,5 +1,5 @@
 //! A recording of packets of different types, lengths, flags and sums, in an order without a pattern.
-use crate::bodies::{add_block, packet, Noise};
+use crate::bodies::{self, add_block, packet, Noise};
 use ch11::raw;
 
 const KINDS: [u8; 9] = [0x09, 0x40, 0x19, 0x11, 0x01, 0x30, 0x50, 0x30, 0x50];
@@ -38,14 +38,13 @@ fn fields(noise: &mut Noise, kind: u8, flags: u8) -> raw::Fields {
         channel: 1 + noise.below(50) as u64,
         version: 1 + noise.below(9) as u64,
         sequence: noise.below(256) as u64,
-        flags: u64::from(flags),
-        kind: u64::from(kind),
         rtc: noise.next() >> 16,
         time: if secondary {
             absolute_time(noise, flags)
         } else {
             0
         },
+        ..bodies::fields(flags, kind, 0)
     }
 }
 

@@ -33,7 +33,6 @@ pub struct Lent<'a> {
     lengths: Vec<u32>,
     last: usize,
     fields: raw::Fields,
-    given: same::Given,
     body: &'a [u8],
     out: Aligned,
 }
@@ -49,23 +48,9 @@ impl<'a> Lent<'a> {
             lengths: vec![0; count],
             last: count.saturating_sub(1),
             fields: packet.fields,
-            given: given(&packet.fields),
             body: &bytes[packet.body.at as usize..][..packet.body.length as usize],
             out: Aligned::copy_of(&vec![0; packet.length as usize], false),
         }
-    }
-}
-
-/// The fields of the library's writer as the Rust writer takes them.
-pub fn given(fields: &raw::Fields) -> same::Given {
-    same::Given {
-        channel: fields.channel,
-        version: fields.version,
-        sequence: fields.sequence,
-        flags: fields.flags,
-        kind: fields.kind,
-        rtc: fields.rtc,
-        time: fields.time,
     }
 }
 
@@ -122,7 +107,7 @@ fn run_rust(input: &Input, lent: &mut Lent, calls: usize) {
         Call::WritePacket => {
             let out = lent.out.bytes_mut();
             repeat(calls, |start| {
-                keep(&same::write_packet(&lent.given, &lent.body[start..], out))
+                keep(&same::write_packet(&lent.fields, &lent.body[start..], out))
             })
         }
     }

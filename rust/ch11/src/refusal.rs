@@ -48,47 +48,50 @@ pub enum Reason {
     Other(u64),
 }
 
-/// The reasons that have a name, each at the place of its number less 1, with its words.
-const NAMED: [(Reason, &str); 17] = [
-    (Reason::State, "window or builder's state out of bounds"),
-    (Reason::Short, "fewer than 24 bytes in the window"),
-    (Reason::Sync, "wrong sync"),
-    (Reason::HeaderSum, "wrong header sum"),
-    (Reason::Version, "version other than 1 to 9"),
-    (Reason::Type, "reserved type"),
-    (Reason::Flags, "flags break a rule"),
-    (Reason::Channel, "channel 0 with another type"),
-    (Reason::Length, "packet or data length breaks a rule"),
-    (Reason::Cut, "packet longer than the window"),
-    (Reason::SecondarySum, "wrong secondary sum"),
-    (Reason::Secondary, "secondary header breaks a rule"),
-    (Reason::DataSum, "wrong data sum"),
-    (Reason::Filler, "filler not zero"),
-    (Reason::Layout, "body breaks its layout"),
-    (Reason::Room, "no room in a list or output"),
-    (Reason::Range, "input or message number out of range"),
+/// The reasons that have a name, with their numbers and words.
+const NAMED: [(u64, Reason, &str); 17] = [
+    (1, Reason::State, "window or builder's state out of bounds"),
+    (2, Reason::Short, "fewer than 24 bytes in the window"),
+    (3, Reason::Sync, "wrong sync"),
+    (4, Reason::HeaderSum, "wrong header sum"),
+    (5, Reason::Version, "version other than 1 to 9"),
+    (6, Reason::Type, "reserved type"),
+    (7, Reason::Flags, "flags break a rule"),
+    (8, Reason::Channel, "channel 0 with another type"),
+    (9, Reason::Length, "packet or data length breaks a rule"),
+    (10, Reason::Cut, "packet longer than the window"),
+    (11, Reason::SecondarySum, "wrong secondary sum"),
+    (12, Reason::Secondary, "secondary header breaks a rule"),
+    (13, Reason::DataSum, "wrong data sum"),
+    (14, Reason::Filler, "filler not zero"),
+    (15, Reason::Layout, "body breaks its layout"),
+    (16, Reason::Room, "no room in a list or output"),
+    (17, Reason::Range, "input or message number out of range"),
 ];
 
 impl Reason {
-    /// The number of this reason, 1 to 17, by which the C interface and the documents name it.
+    /// The number of this reason, by which the C interface and the documents name it.
     pub fn number(self) -> u64 {
         match self {
             Reason::Other(number) => number,
-            named => 1 + NAMED.iter().take_while(|entry| entry.0 != named).count() as u64,
+            named => NAMED
+                .iter()
+                .find(|entry| entry.1 == named)
+                .map_or(0, |entry| entry.0),
         }
     }
 
     /// The reason of this number.
     pub fn from_number(number: u64) -> Reason {
-        let entry = (1..).zip(NAMED).find(|(n, _)| *n == number);
-        entry.map_or(Reason::Other(number), |(_, (reason, _))| reason)
+        let entry = NAMED.iter().find(|entry| entry.0 == number);
+        entry.map_or(Reason::Other(number), |entry| entry.1)
     }
 }
 
 impl fmt::Display for Reason {
     fn fmt(&self, f: &mut fmt::Formatter<'_>) -> fmt::Result {
-        let entry = NAMED.iter().find(|(reason, _)| reason == self);
-        f.write_str(entry.map_or("a reason unknown to this version", |(_, words)| words))
+        let entry = NAMED.iter().find(|entry| entry.1 == *self);
+        f.write_str(entry.map_or("a reason unknown to this version", |entry| entry.2))
     }
 }
 

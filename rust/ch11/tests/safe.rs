@@ -2,18 +2,8 @@
 
 mod cases;
 
-use cases::{recording, FILLED, L, M, M_AT};
-use ch11::{Draft, Fields, Part, Reason, Recording, Refusal, TimeRule, MESSAGE, UART};
-
-const M_FIELDS: Fields = Fields {
-    channel: 0x1234,
-    version: 5,
-    sequence: 0xC9,
-    flags: 0xC7,
-    kind: MESSAGE,
-    rtc: 0x0A0B_0C0D_0E0F,
-    time: 0x0001_0203_0405_0607,
-};
+use cases::{recording, shown, FILLED, L, M, M_AT};
+use ch11::{Draft, Fields, Reason, Recording, Refusal, TimeRule, MESSAGE, UART};
 
 fn refusal(reason: Reason, place: usize, room: usize) -> Refusal {
     Refusal {
@@ -27,20 +17,10 @@ fn refusal(reason: Reason, place: usize, room: usize) -> Refusal {
 fn every_field_of_a_packet() {
     let buf = recording();
     let packet = ch11::read_packet(&buf, M_AT, FILLED).unwrap();
-    let part = |at, length| Part { at, length };
-    let want = ch11::Packet {
-        fields: M_FIELDS,
-        length: 80,
-        data_length: 38,
-        header_sum: 0x1BC2,
-        data_sum: 0xBE1E_DABD,
-        header: part(100, 24),
-        secondary: part(124, 12),
-        body: part(136, 38),
-        filler: part(174, 2),
-        sum: part(176, 4),
-    };
-    assert_eq!(packet, want);
+    let as_told = |case| shown(case, &mut |word| word);
+    let refusal = format!("refusal: {}, ", as_told("none"));
+    let want = as_told("packet_m").replace(&refusal, "");
+    assert_eq!(format!("{packet:?}"), want);
     assert_eq!(buf[packet.body.range()], M[36..74]);
 
     let mut out = [0; 80];
@@ -183,28 +163,14 @@ fn writer_refusals() {
         refused
     };
     let body = &M[36..74];
-    let late = Fields {
-        rtc: 1 << 48,
-        ..M_FIELDS
-    };
+    let fields = ch11::read_packet(&M, 0, 80).unwrap().fields;
+    let (mut late, mut new) = (fields, fields);
+    (late.rtc, new.version) = (1 << 48, 10);
     assert_eq!(write(late, body, 80), refusal(Reason::Range, 0, 0));
-    assert_eq!(
-        write(
-            Fields {
-                version: 10,
-                ..M_FIELDS
-            },
-            body,
-            80
-        ),
-        refusal(Reason::Version, 0, 0)
-    );
-    assert_eq!(
-        write(M_FIELDS, &body[1..], 80),
-        refusal(Reason::Layout, 0, 0)
-    );
-    assert_eq!(write(M_FIELDS, &[], 80), refusal(Reason::Length, 0, 0));
-    assert_eq!(write(M_FIELDS, body, 0), refusal(Reason::Room, 0, 80));
+    assert_eq!(write(new, body, 80), refusal(Reason::Version, 0, 0));
+    assert_eq!(write(fields, &body[1..], 80), refusal(Reason::Layout, 0, 0));
+    assert_eq!(write(fields, &[], 80), refusal(Reason::Length, 0, 0));
+    assert_eq!(write(fields, body, 0), refusal(Reason::Room, 0, 80));
 }
 
 #[test]
@@ -291,14 +257,19 @@ fn time_rules() {
 
 #[test]
 fn numbers_and_words() {
-    for number in 1..=17 {
-        let reason = Reason::from_number(number);
-        assert_eq!(reason.number(), number);
-        assert_ne!(reason, Reason::Other(number));
+    // The header's list of refusals: `CH11_DATA_SUM = 13` there is `DataSum` here.
+    let header = include_str!("../../../include/ch11.h");
+    let (_, list) = header.split_once("CH11_NONE = 0,").unwrap();
+    for entry in list.split("};").next().unwrap().split("CH11_").skip(1) {
+        let (name, rest) = entry.split_once(" = ").unwrap();
+        let digits = rest.split(|c: char| !c.is_ascii_digit()).next().unwrap();
+        let reason = Reason::from_number(digits.parse().unwrap());
+        assert_eq!(reason.number().to_string(), digits);
+        assert_eq!(format!("{reason:?}").to_uppercase(), name.replace('_', ""));
     }
     assert_eq!((Reason::State.number(), Reason::DataSum.number()), (1, 13));
     assert_eq!((Reason::Room.number(), Reason::Range.number()), (16, 17));
-    assert_eq!(Reason::from_number(18), Reason::Other(18));
+    assert_eq!(Reason::from_number(99), Reason::Other(99));
 
     let words = |refusal: Refusal| refusal.to_string();
     let wrong_sum = refusal(Reason::DataSum, 40, 0);

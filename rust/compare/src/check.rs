@@ -1,5 +1,6 @@
 //! Each call of the C interface against the second program, on one input.
 
+use crate::expected::{by_field, same};
 use crate::tally::{Call, Tally, ADD, CLOSE, LIST, ONE_MESSAGE, OPEN, READ, RECORDING, WRITE};
 use crate::{expected, library};
 use ch11::raw::{Draft, Fields, List, Message, Packet, Recording, Refusal, Written};
@@ -198,15 +199,7 @@ pub fn write_recipe(tally: &mut Tally, recipe: &Recipe, room: usize) -> u64 {
 }
 
 pub fn fields_of(recipe: &Recipe) -> Fields {
-    Fields {
-        channel: recipe.channel,
-        version: recipe.version,
-        sequence: recipe.sequence,
-        flags: recipe.flags,
-        kind: recipe.kind,
-        rtc: recipe.rtc,
-        time: recipe.time,
-    }
+    by_field!(same! recipe => Fields)
 }
 
 /// An accepted packet, written again from what was read, gives the same bytes; its output is its own length or longer.

@@ -11,6 +11,15 @@ macro_rules! same {
         $into { $($field: $from.$field),+ }
     };
 }
+pub(crate) use same;
+
+/// Hands the names of a packet's fields to a macro, behind what it is given first.
+macro_rules! by_field {
+    ($do:ident! $($given:tt)+) => {
+        $do!($($given)+: channel version sequence flags kind rtc time)
+    };
+}
+pub(crate) use by_field;
 
 /// An answer without a refusal: these fields, copied from another struct; the others are zero.
 macro_rules! accepted {
@@ -42,7 +51,7 @@ fn part(from: second::Part) -> Part {
 
 fn packet(from: second::Packet) -> (u64, Packet) {
     let (number, mut packet) = accepted!(from => Packet: length data_length header_sum data_sum);
-    packet.fields = same!(from.fields => Fields: channel version sequence flags kind rtc time);
+    packet.fields = by_field!(same! from.fields => Fields);
     packet.header = part(from.header);
     packet.secondary = part(from.secondary);
     packet.body = part(from.body);
@@ -82,7 +91,7 @@ pub fn read_recording(w: &Placed) -> (u64, Recording) {
 }
 
 pub fn write_packet(fields: &Fields, body: &[u8], out: &mut [u8]) -> (u64, Written) {
-    let fields = same!(fields => Given: channel version sequence flags kind rtc time);
+    let fields = by_field!(same! fields => Given);
     let mut written = Written::default();
     match second::write_packet(&fields, body, out) {
         Ok(length) => written.length = length,

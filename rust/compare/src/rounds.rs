@@ -2,9 +2,10 @@
 
 use crate::building::{KINDS, RULES};
 use crate::check::{self, Step};
+use crate::expected::by_field;
 use crate::tally::Tally;
 use crate::{elsewhere, library};
-use ch11::raw::{Draft, Fields};
+use ch11::raw::Draft;
 use generate::causes::{causes, with_faults};
 use generate::opened::{some_n, MESSAGE, UART};
 use generate::random::Random;
@@ -82,6 +83,11 @@ fn recordings(tally: &mut Tally, random: &mut Random) {
     }
 }
 
+/// A struct's fields, to be changed.
+macro_rules! each {
+    ($from:ident: $($field:ident)+) => { [$(&mut $from.$field),+] };
+}
+
 /// The writer on sound and faulty fields and bodies, with outputs around what is needed.
 fn writer(tally: &mut Tally, random: &mut Random) {
     let faults = some_faults(random, &causes(true));
@@ -91,17 +97,8 @@ fn writer(tally: &mut Tally, random: &mut Random) {
     }
     let mut fields = check::fields_of(&recipe);
     if random.one_in(4) {
-        let Fields {
-            channel,
-            version,
-            sequence,
-            flags,
-            kind,
-            rtc,
-            time,
-        } = &mut fields;
-        let all = [channel, version, sequence, flags, kind, rtc, time];
-        *all[random.index(7)] = random.wide();
+        let all = by_field!(each! fields);
+        *all[random.index(all.len())] = random.wide();
     }
     let length = recipe.right_length();
     let less = random.index(length);

@@ -2,13 +2,9 @@
 
 use second::*;
 
-const DONE: Refusal = Refusal {
-    number: 0,
-    place: 0,
-    room: 0,
-};
+const DONE: Refusal = refusal(0, 0);
 
-fn refusal(number: u64, room: u64) -> Refusal {
+const fn refusal(number: u64, room: u64) -> Refusal {
     Refusal {
         number,
         place: 0,

@@ -19,7 +19,7 @@ returns-2 : tie.Need-returns-2
 returns-2 c =
     let w = c .before .before .before in
     let o = sym (w .before .before .opens-kind .ensures) ∙ not-false _ (w .before .if1 .left) in
-    ap Faulty (c .fault .ensures) ∙ sym (walked-faulty _ _ _ _ o (w .walk-body .ensures) (c .before .if2 .taken))
+    ap Faulty (c .walk-refusal .ensures) ∙ sym (walked-faulty _ _ _ _ o (w .walk-body .ensures) (c .before .if2 .taken))
 
 returns-3 : tie.Need-returns-3
 returns-3 c =

@@ -1,6 +1,8 @@
 use Prim.Native.Nat.{ℕ}
-use Rattle.builder.proofs.Drafts.{draft-facts, block-facts}
-use Rattle.builder.specs.Build.{denied, draftAdded, addStep}
+use Rattle.terms.specs.Refusals.{needing, refused}
+use Rattle.builder.proofs.Drafts.{draft-facts, block-facts, denies}
+use Rattle.builder.specs.Build.{draftAdded, addStep}
+use Rattle.builder.specs.declared.Step.the-variants.{Denied}
 use borrow.Author.Tests.{lt-ltb, le-ltb}
 use Rattle.units.proofs.Choices.{chosen, skipped}
 use native.Mathlib.Omega.{arith}
@@ -12,20 +14,20 @@ use Rattle.builder.proofs.judge_add.Tie as tie
 returns : tie.Need-returns
 unfolding addStep
 returns c =
-    c .deny .ensures
+    denies _ _ _ (c .refuse .ensures)
     ∙ chosen _ _ (c .before .before .bad-draft .ensures) (c .before .if1 .taken)
 
 returns-2 : tie.Need-returns-2
 unfolding addStep
 returns-2 c =
-    c .deny2 .ensures
+    denies _ _ _ (c .refuse2 .ensures)
     ∙ skipped _ _ _ (c .before .before .before .before .bad-draft .ensures) (c .before .before .before .if1 .left)
     (chosen _ _ (c .before .before .bad-block .ensures) (c .before .if2 .taken))
 
 returns-3 : tie.Need-returns-3
 unfolding addStep
 returns-3 c =
-    c .deny3 .ensures
+    denies _ _ _ (c .fault .ensures)
     ∙ skipped _ _ _ (c .before .before .before .before .before .before .bad-draft .ensures) (c .before .before .before .before .before .if1 .left)
     (skipped _ _ _ (c .before .before .before .before .bad-block .ensures) (c .before .before .before .if2 .left)
     (chosen _ _ (c .before .before .bad-time .ensures) (c .before .if3 .taken)))
@@ -33,7 +35,7 @@ returns-3 c =
 returns-4 : tie.Need-returns-4
 unfolding addStep
 returns-4 c =
-    c .deny4 .ensures
+    denies _ _ _ (c .refuse3 .ensures)
     ∙ skipped _ _ _ (c .before .before .before .before .before .before .before .before .bad-draft .ensures) (c .before .before .before .before .before .before .before .if1 .left)
     (skipped _ _ _ (c .before .before .before .before .before .before .bad-block .ensures) (c .before .before .before .before .before .if2 .left)
     (skipped _ _ _ (c .before .before .before .before .bad-time .ensures) (c .before .before .before .if3 .left)
@@ -52,8 +54,8 @@ unfolding addStep
 returns-5 c =
     let e = c .before .before .used-after .ensures in
     let draft = c .before .before .before .before .before .before .before .before .before .before .before .args .draft in
-    c .deny5 .ensures
-    ∙ ap (λ (used : ℕ). denied 16 used draft) e
+    denies _ _ _ (c .no-room .ensures)
+    ∙ ap (λ (used : ℕ). Denied (needing used (refused 16 0)) draft) e
     ∙ skipped _ _ _ (c .before .before .before .before .before .before .before .before .before .before .bad-draft .ensures) (c .before .before .before .before .before .before .before .before .before .if1 .left)
     (skipped _ _ _ (c .before .before .before .before .before .before .before .before .bad-block .ensures) (c .before .before .before .before .before .before .before .if2 .left)
     (skipped _ _ _ (c .before .before .before .before .before .before .bad-time .ensures) (c .before .before .before .before .before .if3 .left)

@@ -27,7 +27,7 @@ returns c =
     let head = stamp .before .before in
     let start = head .before .before .before in
     let e = head .stamp-length .ensures .0 in
-    block-put (start .args .stamped) (start .args .time) (start .args .upper) (start .args .bytes .now) (start .args .at + head .stamp-length .result) (start .args .at)
+    block-put (start .args .form) (start .args .time) (start .args .upper) (start .args .bytes .now) (start .args .at + head .stamp-length .result) (start .args .at)
     (start .args .buf .now) (stamp .put-stamp .last .0) (word .put32 .last .0) (copied .copy-at .last .0) _ (ap (λ (n : ℕ). start .args .at + n) e) (start .pre .1)
     (stamp .put-stamp .ensures) (word .put32 .ensures) (copied .copy-at .ensures) (cleared .clear-at .ensures)
 

@@ -5,9 +5,9 @@ use Rattle.builder.proofs.used_after.Tie as tie
 
 returns : tie.Need-returns
 unfolding grown
-returns c = simp (c .before .stamp-length .ensures .0)
+returns c = simp (c .before .stamp-length .ensures .0, c .before .before .form-of .ensures)
 
 pub used-after-spec : {M : Type 1} → statement M
 used-after-spec =
     tie.close
-    (tie.spec (λ c κs. search needs) (λ c. search needs) (λ c. search needs) (λ c. search needs) (λ c. search needs) returns)
+    (tie.spec (λ c κs. search needs) (λ c κs. search needs) (λ c. search needs) (λ c. search needs) (λ c. search needs) (λ c. search needs) returns)

@@ -6,7 +6,7 @@ use Rattle.packet.proofs.write_packet.Statement.{statement}
 use Rattle.packet.proofs.write_packet.Tie as tie
 
 returns : tie.Need-returns
-returns c = (write-refused _ _ _ _ (c .before .before .writer-refusal .ensures) _ (c .before .if1 .taken) (c .refuse .ensures), out-kept _ _ _ _ refl)
+returns c = (write-refused _ _ _ (c .before .before .writer-refusal .ensures) _ (c .before .if1 .taken) (c .refuse .ensures), out-kept _ _ _ _ refl)
 
 put-packet-requires : tie.Need-put-packet-requires
 put-packet-requires c κs =
@@ -27,7 +27,7 @@ returns-2 c =
     let fit = c .before .before .before .before .before .before .fit in
     let enum-told = c .before .before .before .before .enum-told in
     let put-packet = c .before .before .put-packet in
-    (write-on _ _ _ _ (writer-refusal .ensures) _ _ (if1 .left) (length-for .ensures .0) (fit .ensures), out-put _ _ _ _ _ (enum-told .given .1) (put-packet .ensures))
+    (write-on _ _ _ (writer-refusal .ensures) _ _ (if1 .left) (length-for .ensures .0) (fit .ensures), out-put _ _ _ _ _ (enum-told .given .1) (put-packet .ensures))
 
 returns-3 : tie.Need-returns-3
 returns-3 c =
@@ -35,7 +35,7 @@ returns-3 c =
     let if1 = c .before .before .before .before .if1 in
     let length-for = c .before .before .before .length-for in
     let fit = c .before .before .fit in
-    (write-on _ _ _ _ (writer-refusal .ensures) _ _ (if1 .left) (length-for .ensures .0) (fit .ensures), out-kept _ _ _ _ (c .enum-told2 .given .1))
+    (write-on _ _ _ (writer-refusal .ensures) _ _ (if1 .left) (length-for .ensures .0) (fit .ensures), out-kept _ _ _ _ (c .enum-told2 .given .1))
 
 pub write-packet-spec : {M : Type 1} → statement M
 write-packet-spec =

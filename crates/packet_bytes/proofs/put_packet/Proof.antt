@@ -9,7 +9,7 @@ returns c =
     let secondary = rest .before .before .before .before in
     let head = secondary .before .before .before .before in
     let start = head .before .before .before .before in
-    packet-put _ _ _ _ _ _ _ (start .pre .0) (start .pre .1) (head .put-header .ensures) (secondary .put-secondary .ensures) (rest .put-data .ensures)
+    packet-put _ _ _ _ _ _ (start .pre .0) (start .pre .1) (head .put-header .ensures) (secondary .put-secondary .ensures) (rest .put-data .ensures)
 
 pub put-packet-spec : {M : Type 1} → statement M
 put-packet-spec =

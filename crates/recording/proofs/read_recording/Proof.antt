@@ -1,10 +1,9 @@
-use borrow.Author.Tests.{ltb-true, ltb-false}
+use borrow.Author.Tests.{not-true, not-false}
 use mathlib.Core.Path.{sym, _∙_}
-use mathlib.Core.Logic.{⊎-elim}
-use Rattle.packet.proofs.Answers.{barred-is}
+use Rattle.packet.proofs.Answers.{barred-is, inside-says}
 use Prim.Native.Nat.{_-_}
 use native.Mathlib.Omega.{arith}
-use Rattle.recording.proofs.Readings.{Tally, outside-disordered, outside-past, recording-outside, tally-first, tally-passed, tally-stops, tally-end}
+use Rattle.recording.proofs.Readings.{Tally, recording-outside, tally-first, tally-passed, tally-stops, tally-end}
 use borrow.Author.Needs.{needs}
 use Rattle.recording.proofs.read_recording.Statement.{statement}
 use Rattle.recording.proofs.read_recording.Tie as tie
@@ -17,17 +16,15 @@ abbrev μ-loop : tie.MeasureT-loop
 
 returns : tie.Need-returns Inv-loop μ-loop
 returns c =
-    let a = c .before .before .before .args in
-    recording-outside (a .buf .now) (a .start) (a .end) _
-    (⊎-elim (λ w. outside-disordered (a .buf .now) (a .start) (a .end) (w .taken))
-    (λ w. outside-past (a .buf .now) (a .start) (a .end) (w .0 .left) (ltb-true _ _ (w .1 .taken))) (c .before .if1 .came))
-    (c .refuse .ensures)
+    recording-outside _ _ _ _ (sym (c .before .before .inside .ensures) ∙ not-true _ (c .before .if1 .taken)) (c .refuse .ensures)
 
 loop-holds : tie.Need-loop-holds Inv-loop μ-loop
-loop-holds c = tally-first _ _ _ (c .before .if1 .left) (ltb-false _ _ (c .if2 .left))
+loop-holds c = tally-first _ _ _ (sym (c .before .inside .ensures) ∙ not-false _ (c .if1 .left))
 
 pass-packet-requires : tie.Need-pass-packet-requires Inv-loop μ-loop
-pass-packet-requires c κs = (omega arith, ltb-false _ _ (c .before .before .if2 .left))
+pass-packet-requires c κs =
+    let i = inside-says _ _ _ (sym (c .before .before .before .inside .ensures) ∙ not-false _ (c .before .before .if1 .left)) in
+    (omega arith, i .1)
 
 add-at : tie.Need-add-at Inv-loop μ-loop
 add-at c =
@@ -60,7 +57,7 @@ returns-2 c =
     (sym (barred-is _ _ (sym (g .1) ∙ after-read .pass-packet .ensures)))
 
 returns-3 : tie.Need-returns-3 Inv-loop μ-loop
-returns-3 c = tally-end _ _ _ _ _ (c .before .before .loop .inv) _ (c .before .loop-test .left) (c .refuse2 .ensures)
+returns-3 c = tally-end _ _ _ _ _ (c .before .before .loop .inv) _ (c .before .loop-test .left) (c .no-refusal .ensures)
 
 pub read-recording-spec : {M : Type 1} → statement M
 read-recording-spec =
@@ -68,6 +65,7 @@ read-recording-spec =
     (tie.spec
     Inv-loop
     μ-loop
+    (λ c κs. search needs)
     (λ c κs. search needs)
     returns
     loop-holds

@@ -11,7 +11,7 @@ use body::{is_opened, messages, walk_body};
 use frame::{check_frame, measure, stored_sum};
 use rules::has_secondary;
 use units::{read16, read32, read48, read64};
-pub use write::{write_packet, Given};
+pub use write::write_packet;
 
 /// A refusal's number, its place counted from the buffer's first byte, and the room needed (16; otherwise 0).
 #[derive(Clone, Copy)]
@@ -71,7 +71,7 @@ pub struct Recording {
     pub refusal: Option<Refusal>,
 }
 
-/// Reads the packet at the start of a window. Refusals 1 to 15.
+/// Reads the packet at the start of a window. The reader's refusals.
 #[inline(never)]
 pub fn read_packet(buffer: &[u8], start: usize, end: usize) -> Result<Packet, Refusal> {
     let window = window_in(buffer, start, end)?;
@@ -109,7 +109,7 @@ pub fn read_recording(buffer: &[u8], start: usize, end: usize) -> Recording {
 }
 
 /// Fills two lists with the start, counted from the packet's first byte, and the length of each message, and gives their number.
-/// Refusals 1 to 15, then 16 where there are more messages than the shorter list holds.
+/// The reader's refusals, then 16 where there are more messages than the shorter list holds.
 #[inline(never)]
 pub fn list_messages(
     buffer: &[u8],
@@ -123,9 +123,8 @@ pub fn list_messages(
     let count = check_messages(window, start)?;
     if starts.len().min(lengths.len()) < count {
         return Err(Refusal {
-            number: 16,
-            place: start,
             room: count,
+            ..refuse(16, start)
         });
     }
     let layout = measure(window);
@@ -138,7 +137,7 @@ pub fn list_messages(
     Ok(count)
 }
 
-/// The message of this number, from 0. Refusals 1 to 15, then 17 where there is none.
+/// The message of this number, from 0. The reader's refusals, then 17 where there is none.
 #[inline(never)]
 pub fn message(buffer: &[u8], start: usize, end: usize, number: usize) -> Result<Message, Refusal> {
     let window = window_in(buffer, start, end)?;
@@ -162,7 +161,7 @@ fn window_in(buffer: &[u8], start: usize, end: usize) -> Result<&[u8], Refusal> 
     buffer.get(start..end).ok_or_else(|| refuse(1, start))
 }
 
-/// The length of the packet at the window's first byte, or the first of 2 to 15 that applies.
+/// The length of the packet at the window's first byte, or the first of the reader's refusals that applies.
 fn pass_packet(window: &[u8], start: usize) -> Result<usize, Refusal> {
     check_frame(window).map_err(|number| refuse(number, start))?;
     check_messages(window, start)?;

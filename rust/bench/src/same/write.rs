@@ -3,45 +3,29 @@ use super::body::{is_opened, walk_body};
 use super::frame::{data_sum, SYNC};
 use super::rules::{body_at, check_values, has_secondary, length_for, sum_width, TimeRule, Values};
 use super::units::{header_sum, put};
-use super::{Fields, Refusal};
+use super::{refuse, Fields, Refusal};
+use ch11::raw;
 
-/// The fields as a caller gives them, each in 64 bits.
-#[derive(Clone, Copy)]
-pub struct Given {
-    pub channel: u64,
-    pub version: u64,
-    pub sequence: u64,
-    pub flags: u64,
-    pub kind: u64,
-    pub rtc: u64,
-    pub time: u64,
-}
-
-/// Writes the packet of these fields and this body at the output's first byte and gives its length.
+/// Writes the packet of these fields, given as the library takes them, and this body at the output's first byte and gives its length.
 /// 17, then 5 to 9, 12 and 15 by the reader's rules, then 16.
 #[inline(never)]
-pub fn write_packet(given: &Given, body: &[u8], out: &mut [u8]) -> Result<usize, Refusal> {
-    let refuse = |number| Refusal {
-        number,
-        place: 0,
-        room: 0,
-    };
+pub fn write_packet(given: &raw::Fields, body: &[u8], out: &mut [u8]) -> Result<usize, Refusal> {
+    let refuse = |number| refuse(number, 0);
     let fields = in_range(given).ok_or_else(|| refuse(17))?;
     let length = check_fields(&fields, body.len() as u64).map_err(refuse)?;
     if is_opened(fields.kind) {
         walk_body(body, fields.kind, fields.flags).map_err(|_| refuse(15))?;
     }
     let packet = out.get_mut(..length).ok_or(Refusal {
-        number: 16,
-        place: 0,
         room: length,
+        ..refuse(16)
     })?;
     put_packet(packet, &fields, body);
     Ok(length)
 }
 
 /// The fields, if each number is in its range.
-fn in_range(given: &Given) -> Option<Fields> {
+fn in_range(given: &raw::Fields) -> Option<Fields> {
     let fields = Fields {
         channel: given.channel.try_into().ok()?,
         version: given.version.try_into().ok()?,

@@ -1,5 +1,4 @@
-//! The two packets that the tests are made of. Every number that is expected of them was worked out
-//! by hand from the rules of document 01, not taken from the library.
+//! The two packets that the tests are made of, and the table of what is expected of them.
 
 /// Case L of document 01: a UART packet of 40 bytes with one message, "ABC".
 pub const L: [u8; 40] = [
@@ -42,4 +41,40 @@ pub fn recording() -> Vec<u8> {
     buf.extend(L);
     buf[FILLED + 32] = 0x40;
     buf
+}
+
+/// What is expected of the structs, field by field; the table itself says how it is read.
+const TABLE: &str = include_str!("../../../../tests/fields.h");
+
+/// The struct of a case of the table as `{:?}` shows it, each of its numbers as `word` has it.
+pub fn shown(case: &str, word: &mut dyn FnMut(u64) -> u64) -> String {
+    let (mut kind, mut column, mut fields) = ("", None, Vec::new());
+    for line in TABLE.lines() {
+        let words = line
+            .split(['(', ',', ' ', ')'])
+            .filter(|word| !word.is_empty());
+        match (&words.collect::<Vec<_>>()[..], column) {
+            (["STRUCT", name, cases @ ..], None) => {
+                (kind, column) = (name, cases.iter().position(|name| *name == case));
+            }
+            (["WORD", name, values @ ..], Some(column)) => {
+                fields.push(format!("{name}: {}", word(number(values[column]))));
+            }
+            (["HOLDS", name, _, values @ ..], Some(column)) => {
+                fields.push(format!("{name}: {}", shown(values[column], word)));
+            }
+            (["END"], Some(_)) => break,
+            _ => {}
+        }
+    }
+    assert!(column.is_some(), "no case {case} in the table");
+    let name = kind[..1].to_uppercase() + &kind[1..];
+    // `type` is a word of Rust's own.
+    format!("{name} {{ {} }}", fields.join(", ")).replace("type:", "kind:")
+}
+
+fn number(text: &str) -> u64 {
+    let hex = text.strip_prefix("0x");
+    hex.map_or(text.parse(), |digits| u64::from_str_radix(digits, 16))
+        .expect("a number")
 }

@@ -1,7 +1,7 @@
 use Rattle.body.proofs.Counts.{has-messages, ReadingIn, in-first, in-fits, in-ahead, in-message}
 use Rattle.body.proofs.Reading.{fill-next}
 use Rattle.body.specs.Answers.{checkBody, messageIn, tab, filled, startsOf, lengthsOf}
-use Rattle.body.specs.declared.TimeRule.{TimeRule}
+use Rattle.terms.specs.declared.TimeRule.{TimeRule}
 use Rattle.body.specs.declared.Checked.the-variants.{Counted}
 use Rattle.body.specs.declared.Message.{Message}
 use lib.ListN.{length}
@@ -13,7 +13,7 @@ use Rattle.body.proofs.list.fill_lists.Statement.{statement}
 use Rattle.body.proofs.list.fill_lists.Tie as tie
 
 abbrev Inv-loop : tie.InvT-loop
-Inv-loop body base kind n starts₀ lengths₀ stamped k₀ at₀ starts lengths k at =
+Inv-loop body base kind n starts₀ lengths₀ form k₀ at₀ starts lengths k at =
     (k ≤ n)
     × ReadingIn kind body n k at
     × ((rule : TimeRule) → checkBody kind rule body ≡ Counted n → starts ≡ filled k (startsOf base (messageIn kind rule body)) starts₀)
@@ -22,10 +22,10 @@ Inv-loop body base kind n starts₀ lengths₀ stamped k₀ at₀ starts lengths
     × (length lengths ≡ length lengths₀)
 
 abbrev μ-loop : tie.MeasureT-loop
-μ-loop body base kind n starts₀ lengths₀ stamped k₀ at₀ starts lengths k at = n - k
+μ-loop body base kind n starts₀ lengths₀ form k₀ at₀ starts lengths k at = n - k
 
-stamps-requires : tie.Need-stamps-requires Inv-loop μ-loop
-stamps-requires c κs = has-messages _ _ _ _ (c .before .before .before .pre .0 .0) (c .before .before .before .pre .0 .1) .long
+form-in-requires : tie.Need-form-in-requires Inv-loop μ-loop
+form-in-requires c κs = has-messages _ _ _ _ (c .before .before .before .pre .0 .0) (c .before .before .before .pre .0 .1) .long
 
 loop-holds : tie.Need-loop-holds Inv-loop μ-loop
 unfolding filled tab
@@ -34,34 +34,34 @@ loop-holds c = (omega arith, in-first _ _ _ (omega arith), (λ rule e. refl), (�
 head-at-requires : tie.Need-head-at-requires Inv-loop μ-loop
 head-at-requires c κs =
     let at-loop = c .before in
-    in-fits _ _ _ _ _ _ (at-loop .loop .inv .1) (omega arith) (at-loop .before .stamps .ensures) _ (at-loop .before .before .before .before .before .pre .0 .0)
+    in-fits _ _ _ _ _ _ (at-loop .loop .inv .1) (omega arith) (at-loop .before .form-in .ensures) _ (at-loop .before .before .before .before .before .pre .0 .0)
 
 add-starts : tie.Need-add-starts Inv-loop μ-loop
 add-starts c =
     let read = c .before in
     let at-loop = read .before .before in
-    let f = in-ahead _ _ _ _ _ _ (at-loop .loop .inv .1) (omega arith) (at-loop .before .stamps .ensures) _ (at-loop .before .before .before .before .before .pre .0 .0) _ (read .head-at .ensures) in
+    let f = in-ahead _ _ _ _ _ _ (at-loop .loop .inv .1) (omega arith) (at-loop .before .form-in .ensures) _ (at-loop .before .before .before .before .before .pre .0 .0) _ (read .head-at .ensures) in
     omega (arith, f .fits)
 
 cast-starts : tie.Need-cast-starts Inv-loop μ-loop
 cast-starts c =
     let read = c .before in
     let at-loop = read .before .before in
-    let f = in-ahead _ _ _ _ _ _ (at-loop .loop .inv .1) (omega arith) (at-loop .before .stamps .ensures) _ (at-loop .before .before .before .before .before .pre .0 .0) _ (read .head-at .ensures) in
+    let f = in-ahead _ _ _ _ _ _ (at-loop .loop .inv .1) (omega arith) (at-loop .before .form-in .ensures) _ (at-loop .before .before .before .before .before .pre .0 .0) _ (read .head-at .ensures) in
     omega (arith, f .fits, f .some)
 
 cast-lengths : tie.Need-cast-lengths Inv-loop μ-loop
 cast-lengths c =
     let read = c .before .before in
     let at-loop = read .before .before in
-    let f = in-ahead _ _ _ _ _ _ (at-loop .loop .inv .1) (omega arith) (at-loop .before .stamps .ensures) _ (at-loop .before .before .before .before .before .pre .0 .0) _ (read .head-at .ensures) in
+    let f = in-ahead _ _ _ _ _ _ (at-loop .loop .inv .1) (omega arith) (at-loop .before .form-in .ensures) _ (at-loop .before .before .before .before .before .pre .0 .0) _ (read .head-at .ensures) in
     omega (arith, f .short)
 
 block-end-requires : tie.Need-block-end-requires Inv-loop μ-loop
 block-end-requires c κs =
     let read = c .before .before in
     let at-loop = read .before .before in
-    let f = in-ahead _ _ _ _ _ _ (at-loop .loop .inv .1) (omega arith) (at-loop .before .stamps .ensures) _ (at-loop .before .before .before .before .before .pre .0 .0) _ (read .head-at .ensures) in
+    let f = in-ahead _ _ _ _ _ _ (at-loop .loop .inv .1) (omega arith) (at-loop .before .form-in .ensures) _ (at-loop .before .before .before .before .before .pre .0 .0) _ (read .head-at .ensures) in
     omega (arith, f .fits)
 
 loop-again : tie.Need-loop-again Inv-loop μ-loop
@@ -70,7 +70,7 @@ loop-again c =
     let at-loop = read .before .before in
     let i = at-loop .loop .inv in
     let a = at-loop .before .before .before .before .before .args in
-    let s = at-loop .before .stamps .ensures in
+    let s = at-loop .before .form-in .ensures in
     let h = read .head-at .ensures in (
       omega arith,
       λ rule e. rw (c .block-end .ensures) (in-ahead _ _ _ _ _ _ (i .1) (omega arith) s rule e _ h .next),
@@ -94,7 +94,7 @@ fill-lists-spec =
     (tie.spec
     Inv-loop
     μ-loop
-    stamps-requires
+    form-in-requires
     loop-holds
     head-at-requires
     add-starts

@@ -21,7 +21,7 @@ returns-2 c = rw (c .if2 .taken) (between _)
 
 returns-3 : tie.Need-returns-3
 returns-3 c =
-    let form = c .before .before .args .form in
+    let form = c .before .before .args .bits in
     rw (ne-eqb form 0 (c .before .if1 .left), ne-eqb form 1 (c .if2 .left), lt-ltb 1 form (omega arith))
 
 pub counter-ok-spec : {M : Type 1} → statement M

@@ -1,5 +1,5 @@
 use Rattle.body.proofs.Walking.{judge-short, judge-time, judge-empty, judge-pad}
-use Rattle.body.proofs.Times.{form-kept, form-broken}
+use Rattle.terms.proofs.Times.{form-kept, form-broken}
 use Rattle.body.specs.inner.Walks.{past}
 use borrow.Author.Tests.{not-true, not-false}
 use mathlib.Core.Bool.{true, false}

@@ -2,6 +2,7 @@ use Rattle.body.specs.declared.Message.{Message}
 use Rattle.body.specs.Walk.{headAt}
 use Rattle.body.specs.inner.Walks.{past}
 use Rattle.body.proofs.Steps.{cut-short, judged}
+use Rattle.body.proofs.Blocks.{says-short}
 use native.Mathlib.Omega.{arith}
 use mathlib.Core.Path.{ap, _∙_}
 use borrow.Author.Needs.{needs}
@@ -17,9 +18,8 @@ judge-block-requires c κs =
     let at-stamp = c .before .before in
     let e = c .head-at .ensures in
     let s = ap (λ (m : Message). m .start) e in
-    let n = ap (λ (m : Message). m .length) e in
     let stamp = at-stamp .stamp-length .ensures .0 in
-    (at-stamp .before .before .pre .0, (omega (arith, s, stamp), omega (arith, s, stamp), omega (arith, n)))
+    (at-stamp .before .before .pre .0, (omega (arith, s, stamp), omega (arith, s, stamp), says-short _ _ _ _ e))
 
 returns-2 : tie.Need-returns-2
 returns-2 c =

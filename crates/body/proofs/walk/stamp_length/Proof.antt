@@ -12,4 +12,4 @@ unfolding stampLength
 returns-2 c = search needs
 
 pub stamp-length-spec : {M : Type 1} → statement M
-stamp-length-spec = tie.close (tie.spec returns returns-2)
+stamp-length-spec = tie.close (tie.spec (λ c. search needs) (λ c. search needs) returns returns-2)

@@ -1,5 +1,5 @@
 use Rattle.units.proofs.Numbers.{bytesOf-mod}
-use Rattle.builder.proofs.Drafts.{draft-facts, buf-kept}
+use Rattle.builder.proofs.Drafts.{draft-facts, denies, buf-kept}
 use Rattle.builder.specs.Build.{closeStep, bufAfter}
 use borrow.Author.Tests.{eq-eqb, ne-eqb}
 use lib.ListN.{length}
@@ -13,22 +13,22 @@ use Rattle.builder.proofs.Draft.close.Tie as tie
 bad-draft-requires : tie.Need-bad-draft-requires
 bad-draft-requires c κs = search needs
 
-deny-requires : tie.Need-deny-requires
-deny-requires c κs = search needs
+refuse-requires : tie.Need-refuse-requires
+refuse-requires c κs = search needs
 
 returns : tie.Need-returns
 unfolding closeStep
-returns c = (c .deny .ensures ∙ chosen _ _ (c .before .before .bad-draft .ensures) (c .before .if1 .taken), buf-kept _ _ _ _ _ _ (c .deny .ensures))
+returns c = (denies _ _ _ (c .refuse .ensures) ∙ chosen _ _ (c .before .before .bad-draft .ensures) (c .before .if1 .taken), buf-kept _ _ _ _ _ _ refl)
 
-deny-requires-2 : tie.Need-deny-requires-2
-deny-requires-2 c κs = search needs
+fault-requires : tie.Need-fault-requires
+fault-requires c κs = search needs
 
 returns-2 : tie.Need-returns-2
 unfolding closeStep
 returns-2 c = (
-  c .deny2 .ensures
+  denies _ _ _ (c .fault .ensures)
       ∙ skipped _ _ _ (c .before .before .before .before .bad-draft .ensures) (c .before .before .before .if1 .left) (chosen _ _ refl (eq-eqb _ _ (c .before .if2 .taken))),
-  buf-kept _ _ _ _ _ _ (c .deny2 .ensures),
+  buf-kept _ _ _ _ _ _ refl,
 )
 
 counts-blocks-requires : tie.Need-counts-blocks-requires
@@ -75,9 +75,9 @@ close-spec =
     tie.close
     (tie.spec
     bad-draft-requires
-    deny-requires
+    refuse-requires
     returns
-    deny-requires-2
+    fault-requires
     returns-2
     counts-blocks-requires
     cast-put16

@@ -1,5 +1,5 @@
 use mathlib.Core.Bool.{not}
-use Rattle.builder.proofs.Drafts.{buf-kept}
+use Rattle.builder.proofs.Drafts.{denies, buf-kept}
 use Rattle.builder.specs.Build.{openStep, bufAfter}
 use borrow.Author.Tests.{lt-ltb, le-ltb}
 use Rattle.units.proofs.Choices.{chosen, skipped}
@@ -10,13 +10,13 @@ use Rattle.builder.proofs.Draft.open.Tie as tie
 
 returns : tie.Need-returns
 unfolding openStep
-returns c = (c .deny .ensures ∙ chosen _ _ (ap not (c .before .before .makes-body .ensures)) (c .before .if1 .taken), buf-kept _ _ _ _ _ _ (c .deny .ensures))
+returns c = (denies _ _ _ (c .refuse .ensures) ∙ chosen _ _ (ap not (c .before .before .makes-body .ensures)) (c .before .if1 .taken), buf-kept _ _ _ _ _ _ refl)
 
 returns-2 : tie.Need-returns-2
 unfolding openStep
 returns-2 c = (
-  c .deny2 .ensures ∙ skipped _ _ _ (ap not (c .before .before .before .makes-body .ensures)) (c .before .before .if1 .left) (chosen _ _ refl (lt-ltb _ _ (c .before .if2 .taken))),
-  buf-kept _ _ _ _ _ _ (c .deny2 .ensures),
+  denies _ _ _ (c .no-room .ensures) ∙ skipped _ _ _ (ap not (c .before .before .before .makes-body .ensures)) (c .before .before .if1 .left) (chosen _ _ refl (lt-ltb _ _ (c .before .if2 .taken))),
+  buf-kept _ _ _ _ _ _ refl,
 )
 
 returns-3 : tie.Need-returns-3

@@ -3,7 +3,7 @@ use native.Mathlib.Omega.{arith}
 use borrow.Author.Needs.{needs}
 use lib.ListN.{length}
 use Rattle.body.specs.Blocks.{blockBytes}
-use Rattle.builder.specs.Build.{stamped, entryOf}
+use Rattle.builder.specs.Build.{formOf, entryOf}
 use Rattle.ch11.specs.Given.{addGiven}
 use Rattle.ch11.proofs.Giving.{over-add, upper-fits, refused-as, step-as, upper-as}
 use Rattle.ch11.proofs.given.add_given.Statement.{statement}
@@ -33,7 +33,7 @@ returns-3 c =
     step-as
     (λ d. addGiven d (length (a .buf .now)) (a .time) (a .upper) n)
     (λ d. d .used)
-    (λ d. blockBytes (stamped (d .rule)) (entryOf (a .time) (a .upper) (a .bytes .now)))
+    (λ d. blockBytes (formOf d) (entryOf (a .time) (a .upper) (a .bytes .now)))
     _
     _
     _
@@ -49,6 +49,10 @@ pub add-given-spec : {M : Type 1} → statement M
 add-given-spec =
     tie.close
     (tie.spec
+    (λ c. search needs)
+    (λ c. search needs)
+    (λ c. search needs)
+    (λ c. search needs)
     (λ c. search needs)
     (λ c. search needs)
     (λ c κs. search needs)

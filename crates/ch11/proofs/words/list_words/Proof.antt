@@ -1,4 +1,4 @@
-use mathlib.Core.Path.{sym, ap}
+use mathlib.Core.Path.{sym, ap, _∙_}
 use borrow.Author.Needs.{needs}
 use Rattle.packet.specs.Messages.{listTold}
 use Rattle.ch11.specs.Words.{listWords}
@@ -11,7 +11,7 @@ returns c = sym (ap (λ a. listWords (listTold a)) (c .before .answer .given .1)
 
 returns-2 : tie.Need-returns-2
 unfolding listWords
-returns-2 c = sym (ap (λ a. listWords (listTold a)) (c .before .before .answer2 .given .1))
+returns-2 c = c .before .put-refusal .ensures ∙ sym (ap (λ a. listWords (listTold a)) (c .before .before .before .before .answer2 .given .1))
 
 pub list-words-spec : {M : Type 1} → statement M
 list-words-spec =
@@ -20,5 +20,7 @@ list-words-spec =
     (λ c. search needs)
     (λ c. search needs)
     (λ c. search needs)
+    (λ c. search needs)
+    (λ c κs. search needs)
     returns
     returns-2)

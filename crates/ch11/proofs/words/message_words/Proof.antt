@@ -1,4 +1,4 @@
-use mathlib.Core.Path.{sym, ap}
+use mathlib.Core.Path.{sym, ap, _∙_}
 use borrow.Author.Needs.{needs}
 use Rattle.packet.specs.Messages.{messageTold}
 use Rattle.ch11.specs.Words.{messageWords}
@@ -11,7 +11,7 @@ returns c = sym (ap (λ a. messageWords (messageTold a)) (c .before .before .ans
 
 returns-2 : tie.Need-returns-2
 unfolding messageWords
-returns-2 c = sym (ap (λ a. messageWords (messageTold a)) (c .before .before .answer2 .given .1))
+returns-2 c = c .before .put-refusal .ensures ∙ sym (ap (λ a. messageWords (messageTold a)) (c .before .before .before .before .answer2 .given .1))
 
 pub message-words-spec : {M : Type 1} → statement M
 message-words-spec =
@@ -21,5 +21,16 @@ message-words-spec =
     (λ c. search needs)
     (λ c. search needs)
     (λ c. search needs)
+    (λ c. search needs)
+    (λ c. search needs)
+    (λ c. search needs)
+    (λ c. search needs)
+    (λ c. search needs)
+    (λ c. search needs)
+    (λ c. search needs)
+    (λ c. search needs)
+    (λ c. search needs)
+    (λ c. search needs)
+    (λ c κs. search needs)
     returns
     returns-2)

@@ -1,4 +1,3 @@
-use mathlib.Core.Path.{refl}
 use borrow.Author.Needs.{needs}
 use Rattle.ch11.specs.Words.{recordingWords}
 use Rattle.ch11.proofs.words.recording_words.Statement.{statement}
@@ -6,7 +5,16 @@ use Rattle.ch11.proofs.words.recording_words.Tie as tie
 
 returns : tie.Need-returns
 unfolding recordingWords
-returns c = refl
+returns c = rw (c .before .put-refusal .ensures)
 
 pub recording-words-spec : {M : Type 1} → statement M
-recording-words-spec = tie.close (tie.spec (λ c. search needs) returns)
+recording-words-spec =
+    tie.close
+    (tie.spec
+    (λ c. search needs)
+    (λ c κs. search needs)
+    (λ c. search needs)
+    (λ c. search needs)
+    (λ c. search needs)
+    (λ c. search needs)
+    returns)

@@ -1,4 +1,3 @@
-use mathlib.Core.Path.{refl}
 use borrow.Author.Needs.{needs}
 use Rattle.ch11.specs.Words.{packetWords}
 use Rattle.ch11.proofs.words.refused_words.Statement.{statement}
@@ -6,7 +5,7 @@ use Rattle.ch11.proofs.words.refused_words.Tie as tie
 
 returns : tie.Need-returns
 unfolding packetWords
-returns c = refl
+returns c = c .before .put-refusal .ensures
 
 pub refused-words-spec : {M : Type 1} → statement M
-refused-words-spec = tie.close (tie.spec (λ c. search needs) (λ c. search needs) (λ c. search needs) (λ c. search needs) returns)
+refused-words-spec = tie.close (tie.spec (λ c. search needs) (λ c κs. search needs) returns)

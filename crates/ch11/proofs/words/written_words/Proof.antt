@@ -1,4 +1,4 @@
-use mathlib.Core.Path.{sym, ap}
+use mathlib.Core.Path.{sym, ap, _∙_}
 use borrow.Author.Needs.{needs}
 use Rattle.packet.specs.Write.{writeTold}
 use Rattle.ch11.specs.Words.{writtenWords}
@@ -11,7 +11,7 @@ returns c = sym (ap (λ a. writtenWords (writeTold a)) (c .before .answer .given
 
 returns-2 : tie.Need-returns-2
 unfolding writtenWords
-returns-2 c = sym (ap (λ a. writtenWords (writeTold a)) (c .before .before .answer2 .given .1))
+returns-2 c = c .before .put-refusal .ensures ∙ sym (ap (λ a. writtenWords (writeTold a)) (c .before .before .before .before .answer2 .given .1))
 
 pub written-words-spec : {M : Type 1} → statement M
 written-words-spec =
@@ -20,5 +20,7 @@ written-words-spec =
     (λ c. search needs)
     (λ c. search needs)
     (λ c. search needs)
+    (λ c. search needs)
+    (λ c κs. search needs)
     returns
     returns-2)

@@ -1,7 +1,7 @@
 use mathlib.Core.Path.{refl, _∙_, ap}
 use borrow.Author.Tests.{eq-eqb, ne-eqb}
 use borrow.Author.Needs.{needs}
-use Rattle.body.specs.Times.{ruleOf}
+use Rattle.terms.specs.Times.{ruleOf}
 use Rattle.units.proofs.Choices.{chosen, skipped}
 use Rattle.frame.specs.Rules.{messageRule}
 use Rattle.frame.proofs.rules.message_rule.Statement.{statement}

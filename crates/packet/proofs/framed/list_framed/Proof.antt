@@ -6,15 +6,15 @@ use Rattle.packet.proofs.Answers.{list-says, unlisted-faulty, fault-rea
 use Rattle.packet.proofs.framed.list_framed.Statement.{statement}
 use Rattle.packet.proofs.framed.list_framed.Tie as tie
 
-add-fault-2 : tie.Need-add-fault-2
-add-fault-2 c =
-    let start = c .before .before .before .before .before .before .before .before .before .before .before .before .before .before .before .before .before .before .before in
-    let measure = c .before .before .before .before .before .before .before .before .before .before .before .before .before .before .before .measure in
-    let message-rule = c .before .before .before .before .before .before .before .before .before .before .before .message-rule in
-    let list-messages = c .before .before .before .before .before .before .before .before .list-messages in
-    let f = c .before .before .f in
-    let reach = fault-reach _ _ (measure .ensures) _ (message-rule .ensures) (start .pre .0) _ (unlisted-faulty _ _ _ _ _ _ (sym (list-messages .ensures .0) ∙ f .given .1)) in
-    omega (arith, reach, start .pre .1)
+reach : tie.Need-moved-requires
+reach c κs =
+    let start = c .before .before .before .before .before .before .before .before .before .before .before .before .before .before .before .before .before .before in
+    let measure = c .before .before .before .before .before .before .before .before .before .before .before .before .before .before .measure in
+    let message-rule = c .before .before .before .before .before .before .before .before .before .before .message-rule in
+    let list-messages = c .before .before .before .before .before .before .before .list-messages in
+    let f = c .before .f in
+    let within = fault-reach _ _ (measure .ensures) _ (message-rule .ensures) (start .pre .0) _ (unlisted-faulty _ _ _ _ _ _ (sym (list-messages .ensures .0) ∙ f .given .1)) in
+    omega (arith, within, start .pre .1)
 
 returns : tie.Need-returns
 returns c =
@@ -28,13 +28,13 @@ returns c =
 
 returns-2 : tie.Need-returns-2
 returns-2 c =
-    let measure = c .before .before .before .before .before .before .before .before .before .before .before .before .before .before .before .before .measure in
-    let message-rule = c .before .before .before .before .before .before .before .before .before .before .before .before .message-rule in
-    let list-messages = c .before .before .before .before .before .before .before .before .before .list-messages in
-    let f = c .before .before .before .f in
+    let measure = c .before .before .before .before .before .before .before .before .before .before .before .before .before .before .before .measure in
+    let message-rule = c .before .before .before .before .before .before .before .before .before .before .before .message-rule in
+    let list-messages = c .before .before .before .before .before .before .before .before .list-messages in
+    let f = c .before .before .f in
     let m = measure .ensures in
     let l = list-messages .ensures in
-    let r = list-says _ _ _ m _ (message-rule .ensures) _ _ _ _ _ _ _ _ _ (f .given .1) (ap Unlisted (c .fault .ensures)) (l .0) (l .1 .0) (l .1 .1) in
+    let r = list-says _ _ _ m _ (message-rule .ensures) _ _ _ _ _ _ _ _ _ (f .given .1) (ap Unlisted (c .moved .ensures)) (l .0) (l .1 .0) (l .1 .1) in
     (r .0, (r .1, r .2))
 
 returns-3 : tie.Need-returns-3
@@ -45,7 +45,7 @@ returns-3 c =
     let n2 = c .before .before .n2 in
     let m = measure .ensures in
     let l = list-messages .ensures in
-    let r = list-says _ _ _ m _ (message-rule .ensures) _ _ _ _ _ _ _ _ _ (n2 .given .1) (ap Unlisted (c .refuse .ensures)) (l .0) (l .1 .0) (l .1 .1) in
+    let r = list-says _ _ _ m _ (message-rule .ensures) _ _ _ _ _ _ _ _ _ (n2 .given .1) (ap Unlisted (c .no-room .ensures)) (l .0) (l .1 .0) (l .1 .1) in
     (r .0, (r .1, r .2))
 
 pub list-framed-spec : {M : Type 1} → statement M
@@ -63,8 +63,7 @@ list-framed-spec =
     (λ c. search needs)
     (λ c. search needs)
     (λ c. search needs)
-    add-fault-2
-    (λ c κs. search needs)
+    reach
     (λ c. search needs)
     (λ c κs. search needs)
     (λ c. search needs)

@@ -16,15 +16,15 @@ add-t20 c =
     let reach = start-reach _ _ (measure .ensures) _ (message-rule .ensures) (start .pre .0) _ _ (sym (message-at .ensures) ∙ m .given .1) in
     omega (arith, reach, start .pre .1)
 
-add-fault-2 : tie.Need-add-fault-2
-add-fault-2 c =
-    let start = c .before .before .before .before .before .before .before .before .before .before .before in
-    let measure = c .before .before .before .before .before .before .before .before .before .measure in
-    let message-rule = c .before .before .before .before .before .message-rule in
-    let message-at = c .before .before .before .before .message-at in
-    let f = c .before .before .f in
-    let reach = fault-reach _ _ (measure .ensures) _ (message-rule .ensures) (start .pre .0) _ (unread-faulty _ _ _ _ _ (sym (message-at .ensures) ∙ f .given .1)) in
-    omega (arith, reach, start .pre .1)
+reach : tie.Need-moved-requires
+reach c κs =
+    let start = c .before .before .before .before .before .before .before .before .before .before in
+    let measure = c .before .before .before .before .before .before .before .before .measure in
+    let message-rule = c .before .before .before .before .message-rule in
+    let message-at = c .before .before .before .message-at in
+    let f = c .before .f in
+    let within = fault-reach _ _ (measure .ensures) _ (message-rule .ensures) (start .pre .0) _ (unread-faulty _ _ _ _ _ (sym (message-at .ensures) ∙ f .given .1)) in
+    omega (arith, within, start .pre .1)
 
 returns : tie.Need-returns
 returns c =
@@ -36,11 +36,11 @@ returns c =
 
 returns-2 : tie.Need-returns-2
 returns-2 c =
-    let measure = c .before .before .before .before .before .before .before .before .before .before .measure in
-    let message-rule = c .before .before .before .before .before .before .message-rule in
-    let message-at = c .before .before .before .before .before .message-at in
-    let f = c .before .before .before .f in
-    message-says _ _ _ (measure .ensures) _ (message-rule .ensures) _ _ _ _ (f .given .1) (ap Withheld (c .fault .ensures)) (message-at .ensures)
+    let measure = c .before .before .before .before .before .before .before .before .before .measure in
+    let message-rule = c .before .before .before .before .before .message-rule in
+    let message-at = c .before .before .before .before .message-at in
+    let f = c .before .before .f in
+    message-says _ _ _ (measure .ensures) _ (message-rule .ensures) _ _ _ _ (f .given .1) (ap Withheld (c .moved .ensures)) (message-at .ensures)
 
 returns-3 : tie.Need-returns-3
 returns-3 c =
@@ -66,8 +66,7 @@ message-framed-spec =
     add-t20
     (λ c. search needs)
     (λ c. search needs)
-    add-fault-2
-    (λ c κs. search needs)
+    reach
     (λ c. search needs)
     (λ c κs. search needs)
     returns

@@ -1,8 +1,8 @@
-use mathlib.Core.Path.{sym, _∙_}
+use mathlib.Core.Path.{sym, ap, _∙_}
 use native.Mathlib.Omega.{arith}
 use borrow.Author.Tests.{not-true, not-false}
 use borrow.Author.Needs.{needs}
-use Rattle.body.specs.Walk.{fault}
+use Rattle.body.specs.declared.Checked.the-variants.{Faulty}
 use Rattle.body.proofs.Counts.{walked-counted, walked-faulty}
 use Rattle.packet.proofs.Answers.{fault-reach, checked-is, pass-carried, pass-counted, pass-faulty}
 use Rattle.packet.proofs.framed.pass_framed.Statement.{statement}
@@ -17,15 +17,15 @@ walk-body-requires c κs =
     sym (else1 .before .opens-kind .ensures) ∙ not-false _ (else1 .if1 .left)
 
 -- what the walk says is what the body's check says
-add-fault-2 : tie.Need-add-fault-2
-add-fault-2 c =
+reach : tie.Need-moved-requires
+reach c κs =
     let walk = c .before .before .before in
     let at-measure = walk .before .before .before .before in
     let else1 = at-measure .before in
     let start = else1 .before .before .before .before in
     let opened = sym (else1 .before .opens-kind .ensures) ∙ not-false _ (else1 .if1 .left) in
-    let faulty = walked-faulty _ _ _ _ opened (walk .walk-body .ensures) (c .before .if2 .taken) in
-    let reach = fault-reach _ _ (at-measure .measure .ensures) _ (walk .before .message-rule .ensures) (start .pre .0) (fault (walk .walk-body .result .place)) faulty in
+    let faulty = walked-faulty _ _ _ _ opened (walk .walk-body .ensures) (c .before .if2 .taken) ∙ sym (ap Faulty (c .walk-refusal .ensures)) in
+    let reach = fault-reach _ _ (at-measure .measure .ensures) _ (walk .before .message-rule .ensures) (start .pre .0) _ faulty in
     omega (arith, reach, start .pre .1)
 
 returns-2 : tie.Need-returns-2
@@ -35,8 +35,8 @@ returns-2 c =
     let else1 = at-measure .before in
     let m = at-measure .measure .ensures in
     let opened = sym (else1 .before .opens-kind .ensures) ∙ not-false _ (else1 .if1 .left) in
-    let faulty = walked-faulty _ _ _ _ opened (walk .walk-body .ensures) (c .before .before .if2 .taken) in
-    pass-faulty _ _ (fault (walk .walk-body .result .place)) _ _ (sym (checked-is _ _ m _ (walk .before .message-rule .ensures)) ∙ faulty) (m .body) (c .fault .ensures)
+    let faulty = walked-faulty _ _ _ _ opened (walk .walk-body .ensures) (c .before .before .if2 .taken) ∙ sym (ap Faulty (c .before .walk-refusal .ensures)) in
+    pass-faulty _ _ _ _ _ (sym (checked-is _ _ m _ (walk .before .message-rule .ensures)) ∙ faulty) (m .body) (c .moved .ensures)
 
 returns-3 : tie.Need-returns-3
 returns-3 c =
@@ -62,9 +62,9 @@ pass-framed-spec =
     (λ c. search needs)
     (λ c κs. search needs)
     walk-body-requires
-    (λ c. search needs)
-    add-fault-2
     (λ c κs. search needs)
+    (λ c. search needs)
+    reach
     returns-2
     (λ c κs. search needs)
     returns-3)

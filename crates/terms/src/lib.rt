@@ -1,0 +1,75 @@
+// What the crates above answer in and judge times by: a refusal, and a time rule.
+ghost use mathlib.Core.Path.{_≡_};
+ghost use Prim.Native.Nat.{_+_, _^_, _<_};
+ghost use Rattle.terms.specs.Refusals.{refusal, noRefusal, refused, fault, needing, placed, moved};
+
+pub mod time;
+
+// How the times of a body's messages, or a secondary header's time, are formed.
+pub enum TimeRule {
+    Counter,
+    Chapter4,
+    Ieee1588,
+    Extended,
+}
+
+// A refusal: document 01's number, the place, and the room needed (16; otherwise 0).
+pub struct Refusal {
+    pub number: u8,
+    pub place: usize,
+    pub room: usize,
+}
+
+// The one place where a refusal's record is made.
+fn make(number: u8, place: usize, room: usize) -> Refusal
+    ensures { λ r. ⌜ r ≡ refusal number place room ⌝ }
+{
+    Refusal {
+        number,
+        place,
+        room,
+    }
+}
+
+// A refusal of this number, at this place.
+pub fn refuse(number: u8, place: usize) -> Refusal
+    ensures { λ r. ⌜ r ≡ refused number place ⌝ }
+{
+    make(number, place, 0)
+}
+
+// No refusal: what stands for one where an answer has its place.
+pub fn no_refusal() -> Refusal
+    ensures { λ r. ⌜ r ≡ noRefusal ⌝ }
+{
+    refuse(0, 0)
+}
+
+// 15: an opened body breaks its layout there.
+pub fn fault(place: usize) -> Refusal
+    ensures { λ r. ⌜ r ≡ fault place ⌝ }
+{
+    refuse(15, place)
+}
+
+// 16: so much room is needed.
+pub fn no_room(place: usize, room: usize) -> Refusal
+    ensures { λ r. ⌜ r ≡ needing room (refused 16 place) ⌝ }
+{
+    make(16, place, room)
+}
+
+// The same refusal, at another place.
+pub fn placed(refusal: Refusal, place: usize) -> Refusal
+    ensures { λ r. ⌜ r ≡ placed place refusal ⌝ }
+{
+    make(refusal.number, place, refusal.room)
+}
+
+// The same refusal, so many bytes on.
+pub fn moved(refusal: Refusal, by: usize) -> Refusal
+    requires { ⌜ by + refusal .place < 2 ^ 64 ⌝ }
+    ensures { λ r. ⌜ r ≡ moved by refusal ⌝ }
+{
+    placed(refusal, by + refusal.place)
+}
