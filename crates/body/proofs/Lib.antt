@@ -6,4 +6,5 @@ pub mod Exactly
 pub mod Bounds
 pub mod Steps
 pub mod Counts
+pub mod ChannelWords
 pub mod Faults

@@ -5,7 +5,8 @@ use lib.ListN.{drop}
 use lib.Dec.{ltb, leb}
 use Rattle.units.specs.Choice.{pick}
 use Rattle.body.specs.Walk.{openBody, blockAt, spot, walk}
-use Rattle.terms.specs.Refusals.{fault}
+use Rattle.terms.specs.Refusals.{fault, noRefusal}
+use Rattle.terms.specs.declared.Refusal.{Refusal}
 use Rattle.terms.specs.declared.TimeRule.{TimeRule}
 use Rattle.body.specs.declared.Shape.{Shape}
 use Rattle.body.specs.declared.Opened.{Opened}
@@ -29,6 +30,15 @@ checkOpened Wrong bs = Faulty (fault 0)
 
 unfoldable pub checkBody : ℕ → TimeRule → List ℕ → Checked
 checkBody kind rule bs = checkOpened (openBody kind rule bs) bs
+
+-- document 01's number and values of the answer
+pub record CheckedTold : Type 0 where
+  pub refusal : Refusal
+  pub count : ℕ
+
+abbrev pub checkedTold : Checked → CheckedTold
+checkedTold (Counted n) = record { refusal = noRefusal; count = n }
+checkedTold (Faulty r) = record { refusal = r; count = 0 }
 
 -- ---- the k-th message, from 0
 

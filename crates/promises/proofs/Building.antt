@@ -1,21 +1,32 @@
--- The builder's steps answer as document 01 says: each of the builder's tests says what its words say.
-use mathlib.Core.Path.{_≡_, refl, ap}
+-- The builder's steps answer as document 01 says, and leave in their buffer what it says: each of the builder's tests says what its words say.
+use mathlib.Core.Path.{_≡_, refl, sym, ap, _∙_}
+use mathlib.Core.List.{List, [], _∷_, _++_, append-assoc}
 use mathlib.Core.Bool.{Bool, true, false, _&&_, _||_}
-use mathlib.Core.Logic.{inl, inr, ⊎-elim}
-use Prim.Native.Nat.{ℕ, zero, suc, _+_, _%_, _^_, _<_}
+use mathlib.Core.Logic.{_⊎_, inl, inr, ⊎-elim, _≢_}
+use Prim.Native.Nat.{ℕ, zero, suc, _+_, _*_, _/_, _%_, _^_, _≤_, _<_}
 use native.Mathlib.Omega.{arith}
-use native.Mathlib.Nat.{mod-eq-of-lt}
+use lib.ListN.{length, take, drop, replicate}
 use lib.Dec.{ltb, leb, eqb}
 use borrow.Author.Tests.{eqb-true, eq-eqb, ne-eqb, ltb-true, lt-ltb, le-ltb, lt-leb}
+use Rattle.units.specs.Units.{bytesOf, splice}
 use Rattle.units.specs.Choice.{pick}
+use Rattle.units.proofs.Numbers.{bytesOf-add, bytesOf-mod}
+use Rattle.units.proofs.Writes.{splice-none}
 use Rattle.units.proofs.Choices.{or-true, and-true}
 use Rattle.terms.specs.Times.{timeOk, ruleOf}
 use Rattle.body.specs.Walk.{stampLength}
+use Rattle.body.specs.Blocks.{blockBytes}
+use Rattle.body.proofs.Blocks.{length-blockBytes}
 use Rattle.body.specs.declared.Form.the-variants.{Stamped, Plain}
-use Rattle.builder.specs.Build.{stamped, counts, makes, badDraft, openStep, badBlock, badTime, strayTime, grown, draftAdded, addStep, closeStep}
+use Rattle.builder.specs.Build.{stamped, formOf, counts, makes, badDraft, openStep, openWord, badBlock, badTime, strayTime, grown, draftAdded, addStep, entryOf, closeStep, counterBytes, bufAfter, stepTold}
 use Rattle.builder.specs.declared.Draft.{Draft}
+use Rattle.builder.specs.declared.Step.{Step}
+use Rattle.builder.specs.declared.Step.the-variants.{Done}
 use Rattle.builder.proofs.Drafts.{draft-facts, draft-good, block-facts}
-use Rattle.promises.specs.Building.{Opens, SoundDraft, Takes, InForm, grownTo, Building}
+use Rattle.promises.specs.Calls.{Open, Add, Close}
+use Rattle.promises.specs.Words.{pad}
+use Rattle.promises.specs.Building.{Opens, SoundDraft, Takes, InForm, grownTo, Fitting, blockOf, Building}
+use Rattle.promises.proofs.NumbersKept.{counter-exactly, time-exactly}
 
 -- ---- a test by what it says: from the test to document 01's words (says), and back (made)
 
@@ -74,23 +85,14 @@ block-made d n t = rw (ne-eqb n 0 (λ z. omega (arith, t .some)), le-ltb 65535 n
 
 -- 15
 form-says : (rule time : ℕ) → timeOk (ruleOf rule) time ≡ true → InForm rule time
-unfolding timeOk ruleOf
 form-says rule time t =
-    record {
-      counter = λ e. ltb-true time (2 ^ 48) (rw e at t);
-      chapter4 = λ e. eqb-true (time % 2 ^ 16) 0 (rw e at t);
-      ieee1588 = λ e. ltb-true (time % 2 ^ 32) 1000000000 (rw e at t);
-    }
+    record { counter = λ e. counter-exactly time .0 (rw e at t); absolute = λ code e. time-exactly code time .0 (rw e at t) }
 
 form-made : (rule time : ℕ) → InForm rule time → timeOk (ruleOf rule) time ≡ true
 unfolding timeOk ruleOf
 form-made zero time f = refl
-form-made (suc zero) time f = lt-ltb time (2 ^ 48) (f .counter refl)
-form-made (suc (suc zero)) time f = eq-eqb (time % 2 ^ 16) 0 (f .chapter4 refl)
-form-made (suc (suc (suc zero))) time f = lt-ltb (time % 2 ^ 32) 1000000000 (f .ieee1588 refl)
-form-made (suc (suc (suc (suc n)))) time f =
-    let m = suc (suc (suc (suc n))) in
-    rw (ne-eqb m 1 (λ e. omega arith), ne-eqb m 2 (λ e. omega arith), ne-eqb m 3 (λ e. omega arith))
+form-made (suc zero) time f = counter-exactly time .1 (f .counter refl)
+form-made (suc (suc code)) time f = let e : suc (suc code) ≡ 2 + code = omega arith in rw e (time-exactly code time .1 (f .absolute code e))
 
 time-passes : (rule time : ℕ) → InForm rule time → badTime rule time ≡ false
 time-passes rule time f = rw (form-made rule time f) (go (stamped rule))
@@ -118,13 +120,119 @@ grown-is d n = ap (λ (stamp : ℕ). d .used + (stamp + 4 + n + n % 2)) (go (sta
 
 -- ---- the steps
 
+-- where no refusal applies
+opens-done : (d : Draft) (kind rule len : ℕ) → Opens kind rule → 4 ≤ len → openStep d kind rule len ≡ Done (record { used = 4; blocks = 0; kind = kind; rule = rule })
+unfolding openStep
+opens-done d kind rule len o room = rw (makes-made kind rule o, le-ltb len 4 room)
+
+adds-done : (d : Draft) (len time n : ℕ) → Fitting d len time n
+    → addStep d len time n ≡ Done (record { used = grownTo d n; blocks = (d .blocks + 1) % 2 ^ 64; kind = d .kind; rule = d .rule })
+unfolding addStep draftAdded
+adds-done d len time n f =
+    rw (
+      draft-made d len (f .sound),
+      block-made d n (f .takes),
+      time-passes (d .rule) time (f .in-form),
+      stray-passes (d .rule) time (f .stored),
+      grown-is d n,
+      le-ltb len (grownTo d n) (f .room),
+    )
+
+closes-done : (d : Draft) (len : ℕ) → SoundDraft d len → d .used ≢ 4 → closeStep d len ≡ Done d
+unfolding closeStep
+closes-done d len s other = rw (draft-made d len s, ne-eqb (d .used) 4 other)
+
+-- ---- and their bytes
+
+-- a buffer after a step that is done
+put : (x r : Step) (d : Draft) (old : List ℕ) (at : ℕ) (vs new : List ℕ) → r ≡ x → x ≡ Done d → new ≡ bufAfter r old at vs → new ≡ splice old at vs
+unfolding bufAfter
+put x r d old at vs new is done after = after ∙ ap (λ (y : Step). bufAfter y old at vs) (is ∙ done)
+
+open-bytes : (d : Draft) (buf₀ : List ℕ) (kind rule : ℕ) (r : Step) (buf₁ : List ℕ) → Open d buf₀ kind rule r buf₁ → Opens kind rule → 4 ≤ length buf₀
+    → ((kind ≡ 0x50) × (1 ≤ rule) → buf₁ ≡ 0x00 ∷ 0x00 ∷ 0x00 ∷ 0x80 ∷ drop 4 buf₀)
+    × ((kind ≡ 0x30) ⊎ (rule ≡ 0) → buf₁ ≡ 0x00 ∷ 0x00 ∷ 0x00 ∷ 0x00 ∷ drop 4 buf₀)
+unfolding bytesOf
+open-bytes d buf₀ kind rule r buf₁ (is, after) o room = (
+  λ (k, some). there ∙ ap (λ (w : ℕ). splice buf₀ 0 (bytesOf 4 w)) (high k some),
+  λ h. there ∙ ap (λ (w : ℕ). splice buf₀ 0 (bytesOf 4 w)) (low h),
+)
+  where
+    there : buf₁ ≡ splice buf₀ 0 (bytesOf 4 (openWord kind rule))
+    there = put _ r _ buf₀ 0 _ buf₁ is (opens-done d kind rule (length buf₀) o room) after
+
+    high : kind ≡ 0x50 → 1 ≤ rule → openWord kind rule ≡ 2 ^ 31
+    high k some = rw (k, lt-ltb 0 rule some)
+
+    none : (b : Bool) → pick (b && false) (2 ^ 31) 0 ≡ 0
+    none true = refl
+    none false = refl
+
+    low : (kind ≡ 0x30) ⊎ (rule ≡ 0) → openWord kind rule ≡ 0
+    low (inl k) = rw k
+    low (inr z) = rw z (none (eqb kind 0x50))
+
+-- the ID word's halves, low byte first
+halves : (upper n : ℕ) → n ≤ 65535 → bytesOf 4 (upper * 2 ^ 16 + n) ≡ bytesOf 2 n ++ bytesOf 2 upper
+halves upper n short =
+    let id = upper * 2 ^ 16 + n in
+    let low : id % 256 ^ 2 ≡ n = omega arith in
+    let high : id / 256 ^ 2 ≡ upper = omega arith in
+    bytesOf-add 2 2 id
+    ∙ ap (λ (l : List ℕ). l ++ bytesOf 2 (id / 256 ^ 2)) (sym (bytesOf-mod 2 id) ∙ ap (bytesOf 2) low)
+    ∙ ap (λ (v : ℕ). bytesOf 2 n ++ bytesOf 2 v) high
+
+block-is : (d : Draft) (time upper : ℕ) (bytes : List ℕ) → length bytes ≤ 65535 → blockBytes (formOf d) (entryOf time upper bytes) ≡ blockOf d time upper bytes
+unfolding blockBytes stampLength bytesOf
+block-is d time upper bytes short =
+    rw (halves upper (length bytes) short) (go (stamped (d .rule)))
+  where
+    go : (t : Bool)
+        → bytesOf (stampLength (pick t Stamped Plain)) time ++ (bytesOf 2 (length bytes) ++ bytesOf 2 upper) ++ bytes ++ replicate (length bytes % 2) 0
+        ≡ pick t (bytesOf 8 time) [] ++ (bytesOf 2 (length bytes) ++ (bytesOf 2 upper ++ (bytes ++ pad (length bytes))))
+    go true = simp append-assoc
+    go false = simp append-assoc
+
+add-bytes : (d : Draft) (buf₀ : List ℕ) (time upper : ℕ) (bytes : List ℕ) (r : Step) (buf₁ : List ℕ) → Add d buf₀ time upper bytes r buf₁
+    → Fitting d (length buf₀) time (length bytes)
+    → buf₁ ≡ take (d .used) buf₀ ++ (blockOf d time upper bytes ++ drop (grownTo d (length bytes)) buf₀)
+unfolding grown
+add-bytes d buf₀ time upper bytes r buf₁ (is, after) f =
+    let b = blockBytes (formOf d) (entryOf time upper bytes) in
+    let there : buf₁ ≡ splice buf₀ (d .used) b = put _ r _ buf₀ (d .used) b buf₁ is (adds-done d (length buf₀) time (length bytes) f) after in
+    let long : d .used + length b ≡ grownTo d (length bytes) = ap (λ (n : ℕ). d .used + n) (length-blockBytes (formOf d) (entryOf time upper bytes)) ∙ grown-is d (length bytes) in
+    there
+    ∙ append-assoc (take (d .used) buf₀) b (drop (d .used + length b) buf₀)
+    ∙ ap (λ (n : ℕ). take (d .used) buf₀ ++ (b ++ drop n buf₀)) long
+    ∙ ap (λ (x : List ℕ). take (d .used) buf₀ ++ (x ++ drop (grownTo d (length bytes)) buf₀)) (block-is d time upper bytes (f .takes .most))
+
+close-bytes : (d : Draft) (buf₀ : List ℕ) (r : Step) (buf₁ : List ℕ) → Close d buf₀ r buf₁ → SoundDraft d (length buf₀) → d .used ≢ 4
+    → (d .kind ≡ 0x30 → buf₁ ≡ d .blocks % 256 ∷ d .blocks / 256 ∷ drop 2 buf₀)
+    × (d .kind ≡ 0x50 → buf₁ ≡ buf₀)
+unfolding bytesOf
+close-bytes d buf₀ r buf₁ (is, after) s other = (
+  λ k.
+      let high : d .blocks / 256 % 256 ≡ d .blocks / 256 = omega (arith, s .few k) in
+      there ∙ ap (splice buf₀ 0) (counted k) ∙ ap (λ (x : ℕ). d .blocks % 256 ∷ x ∷ drop 2 buf₀) high,
+  λ k. there ∙ ap (splice buf₀ 0) (uncounted k) ∙ splice-none buf₀ 0,
+)
+  where
+    there : buf₁ ≡ splice buf₀ 0 (counterBytes d)
+    there = put _ r d buf₀ 0 _ buf₁ is (closes-done d (length buf₀) s other) after
+
+    counted : d .kind ≡ 0x30 → counterBytes d ≡ bytesOf 2 (d .blocks)
+    counted k = rw k
+
+    uncounted : d .kind ≡ 0x50 → counterBytes d ≡ []
+    uncounted k = rw k
+
 pub building : Building
-unfolding openStep addStep closeStep draftAdded
+unfolding openStep addStep closeStep
 building =
     record {
       open-17 = λ d kind rule len n. rw (unmet (makes kind rule) (makes-says kind rule) n);
       open-16 = λ d kind rule len o short. rw (makes-made kind rule o, lt-ltb len 4 short);
-      opens = λ d kind rule len o room. rw (makes-made kind rule o, le-ltb len 4 room);
+      opens = λ d kind rule len o room. ap stepTold (opens-done d kind rule len o room);
       add-1 = λ d len time n u. rw (refuted (badDraft d len) (draft-says d len) u);
       add-17 = λ d len time n s u. rw (draft-made d len s, refuted (badBlock d n) (block-says d n) u);
       add-15 = λ d len time n s t some u. rw (draft-made d len s, block-made d n t, time-broken (d .rule) time some u);
@@ -132,18 +240,11 @@ building =
       add-16 =
           λ d len time n s t f none short.
           rw (draft-made d len s, block-made d n t, time-passes (d .rule) time f, stray-passes (d .rule) time none, grown-is d n, lt-ltb len (grownTo d n) short);
-      adds =
-          λ d len time n fits s t f none room.
-          rw (
-            draft-made d len s,
-            block-made d n t,
-            time-passes (d .rule) time f,
-            stray-passes (d .rule) time none,
-            grown-is d n,
-            le-ltb len (grownTo d n) room,
-            mod-eq-of-lt fits,
-          );
+      adds = λ d len time n f. ap stepTold (adds-done d len time n f);
       close-1 = λ d len u. rw (refuted (badDraft d len) (draft-says d len) u);
       close-15 = λ d len s e. rw (draft-made d len s, eq-eqb (d .used) 4 e);
-      closes = λ d len s e. rw (draft-made d len s, ne-eqb (d .used) 4 e);
+      closes = λ d len s e. ap stepTold (closes-done d len s e);
+      open-bytes = open-bytes;
+      add-bytes = add-bytes;
+      close-bytes = close-bytes;
     }

@@ -1,68 +1,43 @@
 -- What document 01 promises beside the demands holds.
-use mathlib.Core.Path.{_≡_, refl, ap, _∙_}
-use mathlib.Core.List.{List, [], _∷_, _++_}
-use mathlib.Core.Bool.{Bool, true, false, not}
-use mathlib.Core.Logic.{inl, inr, ⊎-elim, _≢_}
-use Prim.Native.Nat.{ℕ, _≤_, min}
+use mathlib.Core.Path.{_≡_, refl, sym, ap, _∙_}
+use mathlib.Core.List.{List, _++_}
+use mathlib.Core.Bool.{true, false≢true}
+use mathlib.Core.Logic.{_≢_}
+use Prim.Native.Nat.{ℕ, zero, suc, _+_, _≤_, min}
 use native.Mathlib.Omega.{arith}
 use native.Mathlib.Nat.{zero-add}
 use lib.ListN.{length, drop}
-use borrow.Author.Tests.{ne-eqb, lt-ltb, le-ltb, eqb-false}
-use Rattle.terms.specs.Refusals.{refused, needing, placed}
-use Rattle.terms.specs.declared.Refusal.{Refusal}
-use Rattle.terms.proofs.Refusals.{placed-is}
-use Rattle.packet.proofs.Told.{Says15, given-15}
-use lib.Dec.{eqb, ltb}
-use Rattle.units.specs.Choice.{pick}
-use Rattle.body.specs.Answers.{noMessage}
-use Rattle.body.specs.declared.Checked.{Checked}
-use Rattle.body.specs.declared.Checked.the-variants.{Counted, Faulty}
+use Rattle.terms.specs.Refusals.{noRefusal}
+use Rattle.terms.specs.Times.{ruleOf}
+use Rattle.body.specs.Answers.{checkBody, checkedTold}
+use Rattle.body.specs.Blocks.{Entry, entriesIn}
+use Rattle.builder.specs.Build.{stamped, closeStep, stepTold}
+use Rattle.builder.specs.Run.{Built, closedBody}
+use Rattle.builder.specs.declared.Draft.{Draft}
+use Rattle.builder.proofs.Running.{built-body}
 use Rattle.builder.proofs.ReadBack.{built-reads-back, built-closes}
-use Rattle.frame.specs.Table.{first, valueLines}
-use Rattle.frame.specs.declared.Fields.{Fields}
+use Rattle.frame.specs.Rules.{messageRule}
 use Rattle.frame.specs.Contents.{Contents, contentsLength}
 use Rattle.packet_bytes.specs.Bytes.{packetBytes}
-use Rattle.packet.specs.Read.{window, readPacket, packetTold, contentsChecked}
+use Rattle.packet.specs.Read.{window, readPacket, packetTold}
 use Rattle.packet.specs.Messages.{messageCount, kthMessage, listAnswer, listPacket, messageAnswer, messagePacket, listTold, messageTold}
-use Rattle.packet.specs.Write.{writerLines, writerRefusal, fitted, writePacket, outAfter, writeTold}
+use Rattle.packet.specs.Write.{outAfter}
 use Rattle.packet.specs.declared.PacketRead.{PacketRead}
 use Rattle.packet.specs.declared.PacketRead.the-variants.{Accepted, Refused}
 use Rattle.packet.specs.declared.PacketWrite.{PacketWrite}
-use Rattle.packet.specs.declared.PacketWrite.the-variants.{Written, Unwritten}
+use Rattle.packet.specs.declared.PacketWrite.the-variants.{Written}
 use Rattle.recording.specs.Reading.{reading}
 use Rattle.recording.proofs.HandedOut.{hands-out, hands-out-once}
 use Rattle.promises.specs.Contents.{Accepts, outputOf}
-use Rattle.promises.specs.Refusals.{OneOf, writerRefusals}
-use Rattle.promises.specs.Endings.{Ends, listedTold, givenTold, writtenTold}
-use Rattle.promises.specs.WriterOrder.{writerTable}
-use Rattle.promises.specs.Document01.{WritesOrNot, Document01}
-use Rattle.promises.proofs.Members.{among-one, one-ahead}
-use Rattle.promises.proofs.Refusing.{numbers, first-one}
+use Rattle.promises.specs.Endings.{zeroMessage, listedTold, givenTold}
+use Rattle.promises.specs.Bodies.{BodyKept}
+use Rattle.promises.specs.Building.{FlagsFor}
+use Rattle.promises.specs.Document01.{Document01}
+use Rattle.promises.proofs.BodiesKept.{body-kept}
 use Rattle.promises.proofs.Keeping.{refused-exactly}
+use Rattle.promises.proofs.WriterKeeping.{write-accepts, write-first, write-ends, write-placed, write-room, write-no-room, write-length, length-once}
 use Rattle.promises.proofs.Building.{building}
 use Rattle.promises.proofs.Writer.{writable-written, accepts-writable, length-of}
-
--- ---- the writer's table
-
-writer-is : (f : Fields) (d : ℕ) → writerRefusal f d ≡ first (writerTable f d)
-unfolding writerRefusal writerLines valueLines writerTable
-writer-is f d = refl
-
-writer-tabled : (c : Contents) (room : ℕ) → first (writerTable (c .fields) (length (c .body))) ≢ 0
-    → writeTold (writePacket c room) ≡ writtenTold (refused (first (writerTable (c .fields) (length (c .body)))) 0) 0
-unfolding writePacket
-writer-tabled c room h = rw (writer-is (c .fields) (length (c .body)), ne-eqb (first (writerTable (c .fields) (length (c .body)))) 0 h)
-
-writes-or-not : (c : Contents) (room : ℕ) → first (writerTable (c .fields) (length (c .body))) ≡ 0 → WritesOrNot c room
-unfolding writePacket fitted
-writes-or-not c room z =
-    let passed = writer-is (c .fields) (length (c .body)) ∙ z in
-    let long = length-of c in
-    record {
-      faulty = λ r q. let right = given-15 c r q in rw (passed, q) (ap (λ (x : Refusal). writtenTold x 0) (placed-is r 15 0 (right .0) (right .1)));
-      short = λ n q h. rw (passed, q, lt-ltb room (contentsLength c) (omega arith), long);
-      fits = λ n q h. rw (passed, q, le-ltb room (contentsLength c) (omega arith), long);
-    }
 
 -- ---- the lister and one message, after the reader's tests
 
@@ -77,40 +52,41 @@ list-as-read buf start end len₁ len₂ = go (readPacket buf start end)
     go (Refused r) h = refl
 
 message-as-read : (buf : List ℕ) (start end number : ℕ) → packetTold (readPacket buf start end) .refusal .number ≢ 0
-    → messageTold (messagePacket buf start end number) ≡ givenTold (packetTold (readPacket buf start end) .refusal) noMessage
+    → messageTold (messagePacket buf start end number) ≡ givenTold (packetTold (readPacket buf start end) .refusal) zeroMessage
 unfolding messagePacket messageAnswer
 message-as-read buf start end number = go (readPacket buf start end)
   where
     go : (x : PacketRead) → packetTold x .refusal .number ≢ 0
         → messageTold (messageAnswer x start (messageCount (window buf start end)) number (kthMessage (window buf start end) number))
-        ≡ givenTold (packetTold x .refusal) noMessage
+        ≡ givenTold (packetTold x .refusal) zeroMessage
     go (Accepted p) h = absurd (h refl)
     go (Refused r) h = refl
 
+-- ---- the builder
+
+-- the rule of message times, by the flags
+rule-for : (rule flags : ℕ) → FlagsFor rule flags → stamped rule ≡ true → messageRule flags ≡ ruleOf rule
+unfolding messageRule
+rule-for zero flags f some = absurd (false≢true some)
+rule-for (suc zero) flags f some = rw (f .counter refl)
+rule-for (suc (suc code)) flags f some =
+    let e : suc (suc code) ≡ 2 + code = omega arith in
+    let (one, format) = f .absolute code e in
+    rw (one, format, e)
+
+reads-back : (buf : List ℕ) (d : Draft) (es : List Entry) (flags : ℕ) → Built buf d es → stepTold (closeStep d (length buf)) .refusal .number ≡ 0
+    → FlagsFor (d .rule) flags
+    → BodyKept (d .kind) flags (closedBody buf d) es
+    × (checkedTold (checkBody (d .kind) (messageRule flags) (closedBody buf d)) ≡ record { refusal = noRefusal; count = length es })
+    × (entriesIn (d .kind) (messageRule flags) (closedBody buf d) (length es) ≡ es)
+reads-back buf d es flags b closes f =
+    let rule = messageRule flags in
+    let body = closedBody buf d in
+    let ruled = rule-for (d .rule) flags f in
+    let (counted, entries) = built-reads-back rule b closes ruled in
+    (body-kept (d .kind) flags body es .0 (built-body rule b closes ruled), ap checkedTold counted, entries)
+
 -- ---- the writer
-
-fitted-ends : (c : Checked) (n room : ℕ) → Says15 c → Ends writerRefusals writtenTold 0 (writeTold (fitted c n room))
-unfolding fitted
-fitted-ends (Counted k) n room right = go (ltb room n)
-  where
-    go : (t : Bool) → Ends writerRefusals writtenTold 0 (writeTold (pick t (Unwritten (needing n (refused 16 0))) (Written n)))
-    go true = inr (needing n (refused 16 0), refl, among-one 16 writerRefusals refl)
-    go false = inl (n, refl)
-fitted-ends (Faulty r) n room right = inr (placed 0 r, refl, rw (right r refl .0) (among-one 15 writerRefusals refl))
-
-writer-numbered : (f : Fields) (d : ℕ) → writerRefusal f d ≢ 0 → OneOf (writerRefusal f d) writerRefusals
-unfolding writerRefusal writerLines valueLines
-writer-numbered f d some =
-    ⊎-elim (λ z. absurd (some z)) (one-ahead (writerRefusal f d) (numbers (writerLines f d)) (15 ∷ 16 ∷ [])) (first-one (writerLines f d))
-
-write-ends : (c : Contents) (room : ℕ) → Ends writerRefusals writtenTold 0 (writeTold (writePacket c room))
-unfolding writePacket
-write-ends c room = go (writerRefusal (c .fields) (length (c .body))) refl (eqb (writerRefusal (c .fields) (length (c .body))) 0) refl
-  where
-    go : (n : ℕ) → n ≡ writerRefusal (c .fields) (length (c .body)) → (t : Bool) → eqb n 0 ≡ t
-        → Ends writerRefusals writtenTold 0 (writeTold (pick (not t) (Unwritten (refused n 0)) (fitted (contentsChecked c) (contentsLength c) room)))
-    go n is true q = fitted-ends (contentsChecked c) (contentsLength c) room (given-15 c)
-    go n is false q = inr (refused n 0, refl, rw is (writer-numbered (c .fields) (length (c .body)) (rw is at (eqb-false n 0 q))))
 
 output-is : (c : Contents) (out : List ℕ) → outAfter (Written (contentsLength c)) out (packetBytes c) ≡ packetBytes c ++ drop (length (packetBytes c)) out
 unfolding outAfter
@@ -131,11 +107,16 @@ document-01 =
       recording-handed =
           λ buf start end. (reading buf start end .packets, hands-out buf start end, λ qs h. hands-out-once buf start end _ qs h .1);
       builder-answers = building;
-      built-reads-back = λ buf d es rule b. built-reads-back rule b;
+      built-reads-back = reads-back;
       block-added = λ time upper bytes. refl;
       built-closes = λ buf d e es b. built-closes b;
       write-ends = write-ends;
-      write-table = writer-tabled;
-      write-behind = writes-or-not;
+      write-first = λ c typed room. write-first c room typed;
+      write-accepts = λ c typed room. write-accepts c room typed;
+      write-placed = write-placed;
+      write-room = write-room;
+      write-no-room = write-no-room;
+      write-length = λ c room z. let (long, is) = write-length c room z in (long, length-of c ∙ sym is);
+      length-once = length-once;
       written-there = written-there;
     }

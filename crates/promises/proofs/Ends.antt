@@ -11,14 +11,12 @@ use Rattle.units.specs.Choice.{pick}
 use Rattle.units.specs.Units.{Bytes}
 use Rattle.units.proofs.Parts.{bytes-part}
 use Rattle.terms.specs.Refusals.{refused, needing, noRefusal, moved}
-use Rattle.body.specs.Answers.{noMessage}
 use Rattle.terms.specs.declared.Refusal.{Refusal}
 use Rattle.body.specs.declared.Message.{Message}
 use Rattle.body.specs.declared.Checked.{Checked}
 use Rattle.body.specs.declared.Checked.the-variants.{Counted, Faulty}
-use Rattle.body.proofs.Faults.{fault-at}
-use Rattle.frame.specs.Header.{flagsIn, dataLength, bodyAt, bodyIn, fieldsIn}
-use Rattle.packet.specs.Read.{window, outerRefusal, bodyChecked, bodyAnswer, readPacket, noPacket, PacketTold, packetTold, outerLines}
+use Rattle.frame.specs.Header.{flagsIn, kindIn, dataLength, bodyAt, bodyIn, fieldsIn}
+use Rattle.packet.specs.Read.{window, outerRefusal, bodyChecked, bodyAnswer, readPacket, PacketTold, packetTold, outerLines}
 use Rattle.packet.specs.Messages.{listPacket, listTold, messagePacket, messageTold, messageCount, kthMessage, listAnswer, messageAnswer}
 use Rattle.frame.specs.Table.{headLines, valueLines, wholeLines, secondaryLines, trailerLines, frameLines}
 use Rattle.packet.specs.declared.Packet.{Packet}
@@ -27,8 +25,9 @@ use Rattle.packet.specs.declared.PacketRead.the-variants.{Accepted, Refused}
 use Rattle.packet.specs.declared.PacketList.the-variants.{Listed, Unlisted}
 use Rattle.packet.specs.declared.PacketMessage.the-variants.{Given, Withheld}
 use Rattle.promises.specs.Refusals.{OneOf, readerRefusals, listerRefusals, messageRefusals}
-use Rattle.promises.specs.Endings.{Ends, readTold, listedTold, givenTold, Placed}
+use Rattle.promises.specs.Endings.{zeroPacket, zeroMessage, Ends, readTold, listedTold, givenTold, Placed}
 use Rattle.packet.proofs.Told.{checked-15, read-told, refusal-numbered}
+use Rattle.promises.proofs.BodiesKept.{fault-kept}
 use Rattle.promises.proofs.Members.{one-among, one-ahead, one-behind}
 use Rattle.promises.proofs.Refusing.{numbers, first-one, read-numbered}
 
@@ -42,10 +41,10 @@ module _ (buf : List ℕ) (s e : ℕ) where
   refused-numbered : (r : Refusal) → readPacket buf s e ≡ Refused r → OneOf (r .number) readerRefusals
   refused-numbered r q = rw q at (read-numbered buf s e (rw q (refusal-numbered buf s e r q)))
 
-  pub read-ends : Ends readerRefusals readTold noPacket (packetTold (readPacket buf s e))
+  pub read-ends : Ends readerRefusals readTold zeroPacket (packetTold (readPacket buf s e))
   read-ends = go (readPacket buf s e) refl
     where
-      go : (x : PacketRead) → readPacket buf s e ≡ x → Ends readerRefusals readTold noPacket (packetTold x)
+      go : (x : PacketRead) → readPacket buf s e ≡ x → Ends readerRefusals readTold zeroPacket (packetTold x)
       go (Accepted p) q = inl (p, refl)
       go (Refused r) q = inr (r, refl, refused-numbered r q)
 
@@ -58,7 +57,7 @@ module _ (buf : List ℕ) (s e : ℕ) where
       go false z h = inl cc
 
   body-placed : Bytes buf → (x : Checked) → bodyChecked (window buf s e) ≡ x → (r : Refusal) → bodyAnswer x (window buf s e) s ≡ Refused r
-      → Placed buf s e r
+      → Placed (window buf s e) s r
   unfolding fieldsIn bodyAnswer bodyChecked
   body-placed raw (Counted n) q r h = let c : _≡_ {A = ℕ} 0 1 = cc in absurd (omega arith)
   body-placed raw (Faulty f) q r h =
@@ -67,26 +66,26 @@ module _ (buf : List ℕ) (s e : ℕ) where
       let is : moved (s + bodyAt (flagsIn w)) f ≡ r = cc in
       let right = checked-15 w f q in
       rw (← is)
-      (record { room = right .1; outer = λ h. absurd (h (right .0)); inner = λ h. (f .place, refl, fault-at _ _ (bodyIn w) f bytes q) })
+      (record { room = right .1; outer = λ h. absurd (h (right .0)); inner = λ h. (f .place, refl, fault-kept (kindIn w) (flagsIn w) (bodyIn w) f bytes q) })
 
   -- 15 is none of those that are placed at the start
   outer-other : outerRefusal buf s e ≢ 15
   unfolding outerRefusal outerLines frameLines headLines valueLines wholeLines secondaryLines trailerLines
   outer-other is = false≢true (one-among 15 (0 ∷ numbers (outerLines buf s e)) (rw is at (first-one (outerLines buf s e))))
 
-  refused-placed : Bytes buf → (r : Refusal) → readPacket buf s e ≡ Refused r → Placed buf s e r
+  refused-placed : Bytes buf → (r : Refusal) → readPacket buf s e ≡ Refused r → Placed (window buf s e) s r
   unfolding readPacket
   refused-placed raw r q = go (from-outer (outerRefusal buf s e) _ r refl q)
     where
       go : (r ≡ refused (outerRefusal buf s e) s) ⊎ ((outerRefusal buf s e ≡ 0) × (bodyAnswer (bodyChecked (window buf s e)) (window buf s e) s ≡ Refused r))
-          → Placed buf s e r
+          → Placed (window buf s e) s r
       go (inl h) = rw h (record { room = refl; outer = λ l. refl; inner = λ n. absurd (outer-other n) })
       go (inr h) = body-placed raw (bodyChecked (window buf s e)) refl r (h .1)
 
-  pub read-placed : Bytes buf → packetTold (readPacket buf s e) .refusal .number ≢ 0 → Placed buf s e (packetTold (readPacket buf s e) .refusal)
+  pub read-placed : Bytes buf → packetTold (readPacket buf s e) .refusal .number ≢ 0 → Placed (window buf s e) s (packetTold (readPacket buf s e) .refusal)
   read-placed raw = go (readPacket buf s e) refl
     where
-      go : (x : PacketRead) → readPacket buf s e ≡ x → packetTold x .refusal .number ≢ 0 → Placed buf s e (packetTold x .refusal)
+      go : (x : PacketRead) → readPacket buf s e ≡ x → packetTold x .refusal .number ≢ 0 → Placed (window buf s e) s (packetTold x .refusal)
       go (Accepted p) q h = absurd (h refl)
       go (Refused r) q h = refused-placed raw r q
 
@@ -105,15 +104,15 @@ module _ (buf : List ℕ) (s e : ℕ) where
       go (Accepted p) count q = fits (ltb (min m n) count) count
       go (Refused r) count q = inr (r, refl, one-ahead (r .number) readerRefusals (16 ∷ []) (refused-numbered buf s e r q))
 
-  pub message-ends : (k : ℕ) → Ends messageRefusals givenTold noMessage (messageTold (messagePacket buf s e k))
+  pub message-ends : (k : ℕ) → Ends messageRefusals givenTold zeroMessage (messageTold (messagePacket buf s e k))
   unfolding messagePacket messageAnswer
   message-ends k = go (readPacket buf s e) (messageCount (window buf s e)) (kthMessage (window buf s e) k) refl
     where
-      there : (t : Bool) (m : Message) → Ends messageRefusals givenTold noMessage (messageTold (pick t (Withheld (refused 17 s)) (Given m)))
+      there : (t : Bool) (m : Message) → Ends messageRefusals givenTold zeroMessage (messageTold (pick t (Withheld (refused 17 s)) (Given m)))
       there true m = inr (refused 17 s, refl, one-behind 17 readerRefusals (17 ∷ []) (inl refl))
       there false m = inl (m, refl)
 
       go : (x : PacketRead) (count : ℕ) (m : Message) → readPacket buf s e ≡ x
-          → Ends messageRefusals givenTold noMessage (messageTold (messageAnswer x s count k m))
+          → Ends messageRefusals givenTold zeroMessage (messageTold (messageAnswer x s count k m))
       go (Accepted p) count m q = there (leb count k) m
       go (Refused r) count m q = inr (r, refl, one-ahead (r .number) readerRefusals (17 ∷ []) (refused-numbered buf s e r q))

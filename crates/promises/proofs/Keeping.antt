@@ -34,12 +34,14 @@ use Rattle.frame.proofs.Stages.{no-secondary}
 use Rattle.frame.proofs.Frames.{lengths-say}
 use Rattle.packet.proofs.Answers.{inside-says, inside-made}
 use Rattle.packet.specs.Read.{inside, window, outerLines, bodyChecked, readPacket, packetTold}
-use Rattle.promises.proofs.BodiesKept.{opens-exactly, body-kept, time-says, time-made}
+use Rattle.promises.proofs.NumbersKept.{version-exactly, type-made, type-says, flags-exactly, channel-exactly, lengths-exactly, time-exactly}
+use Rattle.promises.proofs.BodiesKept.{bodyPasses, messages-pass, messages-say}
 use Rattle.promises.specs.Refusals.{OneOf, readerRefusals}
-use Rattle.promises.specs.Keeps.{definedTypes, P, D, width, Rule, within, enough, synced, headerSum, version, defined, flagged, channel, lengths, whole, secondarySum, secondary, dataSum, filler, messages, Keeps}
-use Rattle.promises.proofs.Again.{field-below, byte-below}
-use Rattle.promises.proofs.Members.{among, among-one}
-use Rattle.promises.proofs.Refusing.{Tested, last, tests, kept-all, all-kept, first-exactly, bodyPasses, passes-says, allLines, number-is, numbers-are}
+use Rattle.promises.specs.Numbers.{width, InFormat}
+use Rattle.promises.specs.Bodies.{MessagesKept}
+use Rattle.promises.specs.Keeps.{P, D, sumPlace, time, Rule, within, enough, synced, headerSum, version, defined, flagged, channel, lengths, whole, secondarySum, secondary, dataSum, filler, messages, Keeps}
+use Rattle.promises.proofs.Again.{byte-below}
+use Rattle.promises.proofs.Refusing.{Tested, last, tests, kept-all, all-kept, first-exactly, allLines, number-is, numbers-are}
 
 -- ---- 3: sync
 
@@ -52,116 +54,6 @@ sync-says (a ∷ b ∷ w) h t =
 
 sync-made : (w : List ℕ) → take 2 w ≡ sync → Rules.synced w ≡ true
 sync-made w e = sym (ap Rules.synced (take-append-drop 2 w)) ∙ ap (λ (l : List ℕ). Rules.synced (l ++ drop 2 w)) e
-
--- ---- 5: version
-
-version-exactly : (v : ℕ) → (Rules.versionOk v ≡ true) ↔ ((1 ≤ v) × (v ≤ 9))
-version-exactly v = (
-  λ t. let o = and-true (leb 1 v) (leb v 9) t in (leb-true 1 v (o .0), leb-true v 9 (o .1)),
-  λ r. rw (le-leb 1 v (r .0), le-leb v 9 (r .1)),
-)
-
--- ---- 6: type, by computing the tests of the 35 and of all bytes
-
-every : (ℕ → Bool) → List ℕ → Bool
-every test [] = true
-every test (k ∷ ks) = test k && every test ks
-
-every-one : (test : ℕ → Bool) (ks : List ℕ) (k : ℕ) → every test ks ≡ true → OneOf k ks → test k ≡ true
-unfolding every
-every-one test [] k all o = absurd o
-every-one test (t ∷ ts) k all (inl e) = rw e (and-true (test t) (every test ts) all .0)
-every-one test (t ∷ ts) k all (inr o) = every-one test ts k (and-true (test t) (every test ts) all .1) o
-
-type-made : (k : ℕ) → OneOf k definedTypes → Rules.typeOk k ≡ true
-unfolding every
-type-made k o = every-one Rules.typeOk definedTypes k refl o
-
--- every type below n that the test lets through is among the 35
-listedBelow : ℕ → Bool
-listedBelow zero = true
-listedBelow (suc n) = (not (Rules.typeOk n) || among n definedTypes) && listedBelow n
-
-listed-below : (n k : ℕ) → k < n → listedBelow n ≡ true → Rules.typeOk k ≡ true → among k definedTypes ≡ true
-unfolding listedBelow
-listed-below zero k l e t = absurd (omega arith)
-listed-below (suc n) k l e t =
-    let o = and-true (not (Rules.typeOk n) || among n definedTypes) (listedBelow n) e in
-    go (decLe n k) (o .0) (λ h. listed-below n k h (o .1) t)
-  where
-    go : Dec (n ≤ k) → (not (Rules.typeOk n) || among n definedTypes) ≡ true → (k < n → among k definedTypes ≡ true) → among k definedTypes ≡ true
-    go (yes h) here before = let z : n ≡ k = omega arith in rw t at (rw z at here)
-    go (no h) here before = before (omega arith)
-
-type-says : (k : ℕ) → k < 256 → Rules.typeOk k ≡ true → OneOf k definedTypes
-unfolding listedBelow
-type-says k l t = among-one k definedTypes (listed-below 256 k l refl t)
-
--- ---- 7: flags
-
-flags-exactly : (f : ℕ) → (Rules.flagsOk f ≡ true) ↔ ((timeFormat f ≢ 3) × (absoluteBit f ≡ 1 → secondaryBit f ≡ 1))
-flags-exactly f = (says, λ r. rw (ne-eqb (timeFormat f) 3 (r .0)) (made (decLe 1 (absoluteBit f)) (r .1)))
-  where
-    says : Rules.flagsOk f ≡ true → (timeFormat f ≢ 3) × (absoluteBit f ≡ 1 → secondaryBit f ≡ 1)
-    says t =
-        let o = and-true (not (eqb (timeFormat f) 3)) (eqb (absoluteBit f) 0 || eqb (secondaryBit f) 1) t in
-        (eqb-false (timeFormat f) 3 (not-true (eqb (timeFormat f) 3) (o .0)), λ one. eqb-true (secondaryBit f) 1 (rw one at (o .1)))
-
-    made : Dec (1 ≤ absoluteBit f) → (absoluteBit f ≡ 1 → secondaryBit f ≡ 1) → (eqb (absoluteBit f) 0 || eqb (secondaryBit f) 1) ≡ true
-    made (yes h) r = let one : absoluteBit f ≡ 1 = omega arith in rw (one, eq-eqb (secondaryBit f) 1 (r one))
-    made (no h) r = rw (eq-eqb (absoluteBit f) 0 (omega arith))
-
--- ---- 8: channel
-
-channel-exactly : (c k : ℕ) → (Rules.channelOk c k ≡ true) ↔ (c ≡ 0 → (k ≡ 0x01) ⊎ (k ≡ 0x04))
-channel-exactly c k = (says, made (eqb c 0) refl)
-  where
-    says : Rules.channelOk c k ≡ true → c ≡ 0 → (k ≡ 0x01) ⊎ (k ≡ 0x04)
-    says t z = ⊎-elim (λ h. inl (eqb-true k 0x01 h)) (λ h. inr (eqb-true k 0x04 h)) (or-true (eqb k 0x01) (eqb k 0x04) (rw z at t))
-
-    either : (k ≡ 0x01) ⊎ (k ≡ 0x04) → (eqb k 0x01 || eqb k 0x04) ≡ true
-    either (inl e) = rw e
-    either (inr e) = rw e
-
-    made : (b : Bool) → eqb c 0 ≡ b → (c ≡ 0 → (k ≡ 0x01) ⊎ (k ≡ 0x04)) → Rules.channelOk c k ≡ true
-    made true e r = rw e (either (r (eqb-true c 0 e)))
-    made false e r = rw e
-
--- ---- 9: lengths
-
-limit-exactly : (k p : ℕ) → (p ≤ Rules.limit k) ↔ ((p ≤ 524288) ⊎ ((k ≡ 0x01) × (p ≤ 134217728)))
-unfolding Rules.limit
-limit-exactly k p = (says (eqb k 0x01) refl, made (eqb k 0x01) refl)
-  where
-    says : (b : Bool) → eqb k 0x01 ≡ b → p ≤ pick b 134217728 524288 → (p ≤ 524288) ⊎ ((k ≡ 0x01) × (p ≤ 134217728))
-    says true e h = inr (eqb-true k 0x01 e, h)
-    says false e h = inl h
-
-    made : (b : Bool) → eqb k 0x01 ≡ b → (p ≤ 524288) ⊎ ((k ≡ 0x01) × (p ≤ 134217728)) → p ≤ pick b 134217728 524288
-    made true e (inl h) = omega arith
-    made true e (inr h) = h .1
-    made false e (inl h) = h
-    made false e (inr h) = absurd (eqb-false k 0x01 e (h .0))
-
--- P's parts, with the filler that is left
-abbrev InParts : ℕ → ℕ → ℕ → Type 0
-InParts f p d = (filler : ℕ) × (filler ≤ 3) × (p ≡ 24 + 12 * secondaryBit f + d + filler + sumLength f)
-
-parts-exactly : (f p d : ℕ) → ((unfilledLength f d ≤ p) × (p ≤ unfilledLength f d + 3)) ↔ InParts f p d
-parts-exactly f p d = (
-  λ h. (p - unfilledLength f d, omega (arith, h .0, h .1), omega (arith, h .0)),
-  λ (n, few, is). (omega (arith, is), omega (arith, is, few)),
-)
-
-lengths-made : (k f p d : ℕ) → p % 4 ≡ 0 → p ≤ Rules.limit k → 1 ≤ d → unfilledLength f d ≤ p → p ≤ unfilledLength f d + 3 → Rules.lengthsOk k f p d ≡ true
-lengths-made k f p d fours most some parts few =
-    rw (
-      eq-eqb (p % 4) 0 fours,
-      le-leb p (Rules.limit k) most,
-      le-leb 1 d some,
-      le-leb (unfilledLength f d) p parts,
-      le-leb p (unfilledLength f d + 3) few,
-    )
 
 -- ---- 11 and 12: the secondary header
 
@@ -187,12 +79,9 @@ module _ (w : List ℕ) (there : secondaryBit (flagsIn w) ≡ 1) where
   field-there : (at n : ℕ) → at + n ≤ 12 → field (secondaryIn w) at n ≡ field w (24 + at) n
   field-there at n h = rw there (field-part w 24 12 at n h)
 
-  -- the low 16 bits of the time, and its low long word
-  low-16 : Bytes w → timeIn w % 2 ^ 16 ≡ field w 24 2
-  low-16 raw = omega (arith, field-there 0 8 (omega arith), field-add w 24 2 6, field-below w 24 2 raw)
-
-  low-32 : Bytes w → timeIn w % 2 ^ 32 ≡ field w 24 4
-  low-32 raw = omega (arith, field-there 0 8 (omega arith), field-add w 24 4 4, field-below w 24 4 raw)
+  -- the time: low long word, high long word
+  the-whole : timeIn w ≡ time w
+  the-whole = field-there 0 8 (omega arith) ∙ field-add w 24 4 4
 
 -- there is one or there is none
 bit-is : {A : Type 0} (w : List ℕ) → (secondaryBit (flagsIn w) ≡ 1 → A) → (secondaryBit (flagsIn w) ≡ 0 → A) → A
@@ -215,29 +104,25 @@ secondary-sum-exactly w long = (says, λ r. bit-is w (made r) (λ none. absent w
 -- what 12 says of the secondary header
 record Secondary (w : List ℕ) : Type 0 where
   reserved : secondaryBit (flagsIn w) ≡ 1 → field w 32 2 ≡ 0
-  chapter4 : secondaryBit (flagsIn w) ≡ 1 → timeFormat (flagsIn w) ≡ 0 → field w 24 2 ≡ 0
-  ieee1588 : secondaryBit (flagsIn w) ≡ 1 → timeFormat (flagsIn w) ≡ 1 → field w 24 4 < 1000000000
+  in-format : secondaryBit (flagsIn w) ≡ 1 → InFormat (timeFormat (flagsIn w)) (time w)
 
-secondary-says : (w : List ℕ) → Bytes w → Rules.secondaryOk w ≡ true → Secondary w
-secondary-says w raw t =
+secondary-says : (w : List ℕ) → Rules.secondaryOk w ≡ true → Secondary w
+secondary-says w t =
     let f = flagsIn w in
     let o = and-true (eqb (reservedIn w) 0) (timeOk (ruleOf (2 + timeFormat f)) (timeIn w)) t in
-    let times = time-says (timeFormat f) (timeIn w) (o .1) in
     record {
       reserved = λ there. sym (field-there w there 8 2 (omega arith)) ∙ eqb-true (reservedIn w) 0 (o .0);
-      chapter4 = λ there form. sym (low-16 w there raw) ∙ times .0 form;
-      ieee1588 = λ there form. omega (arith, low-32 w there raw, times .1 form);
+      in-format = λ there. rw (the-whole w there) at (time-exactly (timeFormat f) (timeIn w) .0 (o .1));
     }
 
-secondary-made : (w : List ℕ) → Bytes w → Secondary w → Rules.secondaryOk w ≡ true
-secondary-made w raw s = bit-is w made (λ none. absent w none .1)
+secondary-made : (w : List ℕ) → Secondary w → Rules.secondaryOk w ≡ true
+secondary-made w s = bit-is w made (λ none. absent w none .1)
   where
     made : secondaryBit (flagsIn w) ≡ 1 → Rules.secondaryOk w ≡ true
     made there =
         let m = timeFormat (flagsIn w) in
         rw (eq-eqb (reservedIn w) 0 (field-there w there 8 2 (omega arith) ∙ s .reserved there))
-        (time-made m (timeIn w) (λ form. low-16 w there raw ∙ s .chapter4 there form)
-        (λ form. omega (arith, low-32 w there raw, s .ieee1588 there form)))
+        (time-exactly m (timeIn w) .1 (rw (the-whole w there) (s .in-format there)))
 
 -- ---- 13: the data sum
 
@@ -290,22 +175,6 @@ zeros-exactly w a b fits = (says, made)
         let in-part : i < b - a = omega (arith, h, length-take (b - a) (drop a w)) in
         shows i in-part ∙ r (a + i) (omega arith) (omega arith)
 
--- ---- 15: the body
-
--- a body of a type that isn't opened passes, with no message
-pub carried-counted : (kind : ℕ) (rule : TimeRule) (bs : List ℕ) → opens kind ≡ false → checkBody kind rule bs ≡ Counted 0
-unfolding checkBody openBody
-carried-counted kind rule bs o = rw o
-
--- a body that keeps rule 15 is counted
-kept-counted : (kind : ℕ) (rule : TimeRule) (bs : List ℕ) → (opens kind ≡ true → (es : List Entry) × BodyOf kind rule bs es)
-    → (n : ℕ) × (checkBody kind rule bs ≡ Counted n)
-kept-counted kind rule bs kept = go (opens kind) refl
-  where
-    go : (o : Bool) → opens kind ≡ o → (n : ℕ) × (checkBody kind rule bs ≡ Counted n)
-    go true o = let m = kept o in (length (m .0), body-of-blocks kind rule bs (m .0) (m .1) .0)
-    go false o = (0, carried-counted kind rule bs o)
-
 -- ---- a rule that is kept passes its test
 
 module _ (buf : List ℕ) (s e : ℕ) (w : List ℕ) where
@@ -328,15 +197,13 @@ module _ (buf : List ℕ) (s e : ℕ) (w : List ℕ) where
   passes₆ (defined h) = type-made (kindIn w) h
 
   passes₇ : Rule buf s e w 7 → Rules.flagsOk (flagsIn w) ≡ true
-  passes₇ (flagged format absolute) = flags-exactly (flagsIn w) .1 (format, absolute)
+  passes₇ (flagged h) = flags-exactly (flagsIn w) .1 h
 
   passes₈ : Rule buf s e w 8 → Rules.channelOk (channelIn w) (kindIn w) ≡ true
   passes₈ (channel h) = channel-exactly (channelIn w) (kindIn w) .1 h
 
   passes₉ : Rule buf s e w 9 → Rules.lengthsOk (kindIn w) (flagsIn w) (P w) (D w) ≡ true
-  passes₉ (lengths fours most some parts) =
-      let p = parts-exactly (flagsIn w) (P w) (D w) .1 parts in
-      lengths-made (kindIn w) (flagsIn w) (P w) (D w) fours (limit-exactly (kindIn w) (P w) .1 most) some (p .0) (p .1)
+  passes₉ (lengths h) = lengths-exactly (kindIn w) (flagsIn w) (P w) (D w) .1 h
 
   passes₁₀ : Rule buf s e w 10 → Rules.whole w ≡ true
   passes₁₀ (whole h) = le-leb (P w) (length w) h
@@ -344,25 +211,22 @@ module _ (buf : List ℕ) (s e : ℕ) (w : List ℕ) where
   passes₁₁ : bodyAt (flagsIn w) ≤ length w → Rule buf s e w 11 → Rules.secondarySummed w ≡ true
   passes₁₁ long (secondarySum h) = secondary-sum-exactly w long .1 h
 
-  passes₁₂ : Bytes w → Rule buf s e w 12 → Rules.secondaryOk w ≡ true
-  passes₁₂ raw (secondary reserved chapter4 ieee1588) =
-      secondary-made w raw (record { reserved = reserved; chapter4 = chapter4; ieee1588 = ieee1588 })
+  passes₁₂ : Rule buf s e w 12 → Rules.secondaryOk w ≡ true
+  passes₁₂ (secondary reserved in-format) = secondary-made w (record { reserved = reserved; in-format = in-format })
 
-  passes₁₃ : bodyAt (flagsIn w) ≤ P w - width w → P w - width w ≤ length w → Rule buf s e w 13 → Rules.dataSummed w ≡ true
-  passes₁₃ behind long (dataSum h) = data-sum-exactly w (bodyAt (flagsIn w)) (P w - width w) (width w) behind long .1 h
+  passes₁₃ : bodyAt (flagsIn w) ≤ sumPlace w → sumPlace w ≤ length w → Rule buf s e w 13 → Rules.dataSummed w ≡ true
+  passes₁₃ behind long (dataSum h) = data-sum-exactly w (bodyAt (flagsIn w)) (sumPlace w) (width (flagsIn w)) behind long .1 h
 
-  passes₁₄ : P w - width w ≤ length w → Rule buf s e w 14 → Rules.fillerOk w ≡ true
-  passes₁₄ long (filler h) = zeros-exactly w (bodyAt (flagsIn w) + D w) (P w - width w) long .1 h
+  passes₁₄ : sumPlace w ≤ length w → Rule buf s e w 14 → Rules.fillerOk w ≡ true
+  passes₁₄ long (filler h) = zeros-exactly w (bodyAt (flagsIn w) + D w) (sumPlace w) long .1 h
 
   -- the messages of a body that keeps 15
-  pub kept-messages : Rule buf s e w 15 → opens (kindIn w) ≡ true → (es : List Entry) × BodyOf (kindIn w) (messageRule (flagsIn w)) (bodyIn w) es
-  kept-messages (messages h) o =
-      let m = h (opens-exactly (kindIn w) .0 o) in
-      (m .0, body-kept (kindIn w) (flagsIn w) (bodyIn w) (m .0) o .1 (m .1))
+  pub kept-messages : Rule buf s e w 15 → MessagesKept (kindIn w) (flagsIn w) (bodyIn w)
+  kept-messages (messages h) = h
 
   passes₁₅ : Rule buf s e w 15 → bodyPasses (bodyChecked w) ≡ true
   unfolding fieldsIn bodyChecked
-  passes₁₅ h = rw (kept-counted (kindIn w) (messageRule (flagsIn w)) (bodyIn w) (kept-messages h) .1)
+  passes₁₅ r = messages-pass (kindIn w) (flagsIn w) (bodyIn w) (kept-messages r)
 
 -- ---- and a test that is passed says its rule, where those before it are kept
 
@@ -373,27 +237,12 @@ module _ (buf : List ℕ) (s e : ℕ) (w : List ℕ) (raw : Bytes w) where
   says₁ : inside buf s e ≡ true → Holds 1
   says₁ t = let i = inside-says buf s e t in within (i .0) (i .1)
 
-  says₇ : Rules.flagsOk (flagsIn w) ≡ true → Holds 7
-  says₇ t = let f = flags-exactly (flagsIn w) .0 t in flagged (f .0) (f .1)
-
-  says₉ : Rules.lengthsOk (kindIn w) (flagsIn w) (P w) (D w) ≡ true → Holds 9
-  says₉ t =
-      let l = lengths-say (kindIn w) (flagsIn w) (P w) (D w) t in
-      lengths (l .fours) (limit-exactly (kindIn w) (P w) .0 (l .within)) (l .some) (parts-exactly (flagsIn w) (P w) (D w) .0 (l .parts, l .few))
-
   says₁₂ : Rules.secondaryOk w ≡ true → Holds 12
-  says₁₂ t = let r = secondary-says w raw t in secondary (r .reserved) (r .chapter4) (r .ieee1588)
+  says₁₂ t = let r = secondary-says w t in secondary (r .reserved) (r .in-format)
 
   says₁₅ : bodyPasses (bodyChecked w) ≡ true → Holds 15
   unfolding fieldsIn bodyChecked
-  says₁₅ t =
-      let kind = kindIn w in
-      let rule = messageRule (flagsIn w) in
-      let (n, is) = passes-says (checkBody kind rule (bodyIn w)) t in
-      messages λ h.
-      let o = opens-exactly kind .1 h in
-      let es = entriesIn kind rule (bodyIn w) n in
-      (es, body-kept kind (flagsIn w) (bodyIn w) es o .0 (body-is-blocks kind rule (bodyIn w) n (bytes-part w (bodyAt (flagsIn w)) (D w) raw) o is .1))
+  says₁₅ t = messages (messages-say (kindIn w) (flagsIn w) (bodyIn w) (bytes-part w (bodyAt (flagsIn w)) (D w) raw) t)
 
   -- from 11 on, of a packet that is there
   trailing : unfilledLength (flagsIn w) (D w) ≤ P w → P w ≤ length w
@@ -401,15 +250,15 @@ module _ (buf : List ℕ) (s e : ℕ) (w : List ℕ) (raw : Bytes w) where
   unfolding secondaryLines trailerLines
   trailing parts there =
       let f = flagsIn w in
-      let sum = P w - width w in
+      let sum = sumPlace w in
       let long : bodyAt f ≤ length w = omega (arith, parts, there) in
       let behind : bodyAt f ≤ sum = omega (arith, parts) in
       let before : sum ≤ length w = omega (arith, there) in
       let sum-is = secondary-sum-exactly w long .0 in
-      let data-is = data-sum-exactly w (bodyAt f) sum (width w) behind before .0 in
+      let data-is = data-sum-exactly w (bodyAt f) sum (width f) behind before .0 in
       let zeros-are = zeros-exactly w (bodyAt f + D w) sum before .0 in
       tests (λ t. secondarySum (sum-is t)) (passes₁₁ buf s e w long) λ _.
-      tests says₁₂ (passes₁₂ buf s e w raw) λ _.
+      tests says₁₂ (passes₁₂ buf s e w) λ _.
       tests (λ t. dataSum (data-is t)) (passes₁₃ buf s e w behind before) λ _.
       tests (λ t. filler (zeros-are t)) (passes₁₄ buf s e w before) λ _.
       tests says₁₅ (passes₁₅ buf s e w) λ _.
@@ -425,9 +274,9 @@ module _ (buf : List ℕ) (s e : ℕ) (w : List ℕ) (raw : Bytes w) where
       tests (λ t. headerSum (sym (summed-says 2 11 w t))) (passes₄ buf s e w) λ _.
       tests (λ t. version (version-exactly (versionIn w) .0 t)) (passes₅ buf s e w) λ _.
       tests (λ t. defined (type-says (kindIn w) (byte-below w 15 raw) t)) (passes₆ buf s e w) λ _.
-      tests says₇ (passes₇ buf s e w) λ _.
+      tests (λ t. flagged (flags-exactly (flagsIn w) .0 t)) (passes₇ buf s e w) λ _.
       tests (λ t. channel (channel-exactly (channelIn w) (kindIn w) .0 t)) (passes₈ buf s e w) λ _.
-      tests says₉ (passes₉ buf s e w) λ t₉.
+      tests (λ t. lengths (lengths-exactly (kindIn w) (flagsIn w) (P w) (D w) .0 t)) (passes₉ buf s e w) λ t₉.
       tests (λ t. whole (leb-true (P w) (length w) t)) (passes₁₀ buf s e w) λ t₁₀.
       trailing (lengths-say (kindIn w) (flagsIn w) (P w) (D w) t₉ .parts) (leb-true (P w) (length w) t₁₀)
 

@@ -2,11 +2,14 @@ pub mod Writer
 pub mod Regions
 pub mod Written
 pub mod Again
-pub mod BodiesKept
 pub mod Members
+pub mod NumbersKept
+pub mod BodiesKept
 pub mod Refusing
 pub mod Keeping
+pub mod WriterKeeping
 pub mod Building
+pub mod Words
 pub mod Reported
 pub mod Spoilt
 pub mod Alterations

@@ -16,6 +16,7 @@ use Rattle.packet.proofs.Told.{Says15, checked-15}
 use Rattle.packet.specs.Read.{window, outerLines, outerRefusal, bodyChecked, bodyAnswer, readPacket, packetTold}
 use Rattle.packet.specs.declared.PacketRead.the-variants.{Refused}
 use Rattle.promises.specs.Refusals.{OneOf, readerRefusals}
+use Rattle.promises.proofs.BodiesKept.{bodyPasses}
 use Rattle.promises.proofs.Members.{apart, apart-here, apart-next, one-behind}
 
 -- ---- a table's number
@@ -83,15 +84,6 @@ module _ (rule : ℕ → Type 0) where
       )
 
 -- ---- the reader's table, with 15 as its last line
-
--- whether a body passes
-abbrev pub bodyPasses : Checked → Bool
-bodyPasses (Counted n) = true
-bodyPasses (Faulty f) = false
-
-pub passes-says : (c : Checked) → bodyPasses c ≡ true → (n : ℕ) × (c ≡ Counted n)
-passes-says (Counted n) t = (n, refl)
-passes-says (Faulty f) t = absurd (false≢true t)
 
 abbrev pub allLines : List ℕ → ℕ → ℕ → List Line
 allLines buf s e = outerLines buf s e ++ (line 15 (bodyPasses (bodyChecked (window buf s e))) ∷ [])

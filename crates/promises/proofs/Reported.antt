@@ -12,7 +12,7 @@ use Rattle.units.specs.Units.{Bytes, part}
 use Rattle.units.proofs.Parts.{length-part, part-part}
 use Rattle.body.specs.Walk.{opens, stampLength}
 use Rattle.terms.specs.Refusals.{refused, noRefusal, needing}
-use Rattle.body.specs.Answers.{noMessage, messageIn, tab, filled}
+use Rattle.body.specs.Answers.{messageIn, tab, filled}
 use Rattle.body.specs.Blocks.{Entry, noEntry, blocksBytes, messageOn, entryAt, entriesIn, BodyOf}
 use Rattle.terms.specs.declared.TimeRule.{TimeRule}
 use Rattle.body.specs.declared.Form.{Form}
@@ -34,10 +34,12 @@ use Rattle.packet.specs.declared.PacketMessage.the-variants.{Given, Withheld}
 use Rattle.packet.proofs.Answers.{inPacket}
 use Rattle.packet.proofs.Own.{accepted-at}
 use Rattle.promises.specs.Refusals.{readerRefusals}
-use Rattle.promises.specs.Endings.{listedTold, givenTold}
+use Rattle.promises.specs.Endings.{zeroMessage, listedTold, givenTold}
 use Rattle.promises.specs.Reports.{messageFor, Reports}
 use Rattle.promises.proofs.Members.{among-one}
-use Rattle.promises.proofs.Keeping.{carried-counted, kept-messages, accepted-exactly}
+use Rattle.body.proofs.ChannelWords.{opens-exactly}
+use Rattle.promises.proofs.BodiesKept.{body-kept, carried-counted}
+use Rattle.promises.proofs.Keeping.{kept-messages, accepted-exactly}
 
 -- ---- what the calls say of an accepted packet with n messages
 
@@ -103,9 +105,10 @@ module _ (kind : ℕ) (rule : TimeRule) (bs : List ℕ) (es : List Entry) (b : B
 -- ---- what the calls report of a packet is what is there
 
 -- where the k-th message stands in a packet, from where it stands in the body
-ahead-is : (flags : ℕ) (form : Form) (es : List Entry) (k : ℕ)
-    → inPacket (bodyAt flags) (messageOn form (4 + length (blocksBytes form (take k es))) (getD es k noEntry)) ≡ messageFor flags form es k
-ahead-is flags form es k =
+ahead-is : (w : List ℕ) (form : Form) (es : List Entry) (k : ℕ)
+    → inPacket (bodyAt (flagsIn w)) (messageOn form (4 + length (blocksBytes form (take k es))) (getD es k noEntry)) ≡ messageFor w form es k
+ahead-is w form es k =
+    let flags = flagsIn w in
     let before = length (blocksBytes form (take k es)) in
     let start : bodyAt flags + (4 + before + stampLength form + 4) ≡ bodyAt flags + 4 + before + stampLength form + 4 = omega arith in
     let x = getD es k noEntry in
@@ -118,7 +121,7 @@ module _ (buf : List ℕ) (s e : ℕ) (p : Packet) (es : List Entry) (h : readPa
   w = window buf s e
 
   abbrev reported : ℕ → Message
-  reported = messageFor (flagsIn w) (b .shape .form) es
+  reported = messageFor w (b .shape .form) es
 
   has-count : bodyChecked w ≡ Counted (length es)
   unfolding fieldsIn bodyChecked
@@ -128,7 +131,7 @@ module _ (buf : List ℕ) (s e : ℕ) (p : Packet) (es : List Entry) (h : readPa
   unfolding kthMessage
   kth-is k more =
       ap (inPacket (bodyAt (flagsIn w))) (body-messages (kindIn w) (messageRule (flagsIn w)) (bodyIn w) es b k more)
-      ∙ ahead-is (flagsIn w) (b .shape .form) es k
+      ∙ ahead-is w (b .shape .form) es k
 
   bytes-in-buffer : (k : ℕ) → k < length es → part buf (s + reported k .start) (length (getD es k noEntry .bytes)) ≡ getD es k noEntry .bytes
   bytes-in-buffer k more =
@@ -168,13 +171,15 @@ pub messages-there : (buf : List ℕ) (s e : ℕ) (p : Packet) → Bytes buf →
     × Reports buf s e es (b .shape .form)
 messages-there buf s e p raw h o =
     let keeps = accepted-exactly buf raw s e .0 (ap (λ (x : PacketRead). packetTold x .refusal .number) h) in
-    let m = kept-messages buf s e (window buf s e) (keeps 15 (among-one 15 readerRefusals refl)) o in
-    (m .0, m .1, blocks-reported buf s e p (m .0) h (m .1))
+    let w = window buf s e in
+    let (es, kept) = kept-messages buf s e w (keeps 15 (among-one 15 readerRefusals refl)) (opens-exactly (kindIn w) .0 o) in
+    let b = body-kept (kindIn w) (flagsIn w) (bodyIn w) es .1 kept in
+    (es, b, blocks-reported buf s e p es h b)
 
 -- of any other type: none
 pub carried-none : (buf : List ℕ) (s e : ℕ) (p : Packet) → readPacket buf s e ≡ Accepted p → opens (kindIn (window buf s e)) ≡ false
     → ((len₁ len₂ : ℕ) → listTold (listPacket buf s e len₁ len₂) ≡ listedTold noRefusal 0)
-    × ((k : ℕ) → messageTold (messagePacket buf s e k) ≡ givenTold (refused 17 s) noMessage)
+    × ((k : ℕ) → messageTold (messagePacket buf s e k) ≡ givenTold (refused 17 s) zeroMessage)
 unfolding fieldsIn bodyChecked
 carried-none buf s e p h o =
     let w = window buf s e in

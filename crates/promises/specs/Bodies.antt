@@ -1,33 +1,17 @@
 -- Rule 15 in document 01's words ("Opened bodies"): a body of a type that we open is its channel word and the blocks of some messages.
 -- No test of the reader's is cited: that the reader's tests say the same is proved in proofs/BodiesKept.antt.
 use mathlib.Core.Path.{_≡_}
-use mathlib.Core.List.{List, [], _∷_, _++_}
+use mathlib.Core.List.{List, _++_}
 use mathlib.Core.Logic.{_≢_}
-use Prim.Native.Nat.{ℕ, _/_, _%_, _^_, _≤_, _<_}
+use Prim.Native.Nat.{ℕ, _%_, _^_, _≤_, _<_}
 use lib.ListN.{length, take}
 use Rattle.units.specs.Units.{field}
-use Rattle.body.specs.Blocks.{Entry, blocksBytes}
+use Rattle.body.specs.Blocks.{Entry, Each, blocksBytes}
+use Rattle.body.specs.Layout.{OpenedType, Asked, ChannelWord, AsMany}
+use Rattle.body.specs.Faults.{AtFault}
 use Rattle.body.specs.declared.Form.{Form}
-use Rattle.body.specs.declared.Form.the-variants.{Stamped, Plain}
-
--- bodies of type 0x30 (Message) and 0x50 (UART) are opened; every other defined type is carried
-abbrev pub openedTypes : List ℕ
-openedTypes = 0x30 ∷ 0x50 ∷ []
-
--- a message's time, by flag bit 6 and the time format (bits 3-2): bit 6 clear means a value below 2^48; set means the secondary time rule of the same format: Chapter 4, the low 16
--- bits are zero; IEEE 1588, the low long word is below 1,000,000,000; extended counter, any
-pub record TimeInForm (flags time : ℕ) : Type 0 where
-  pub counter : flags / 64 % 2 ≡ 0 → time < 2 ^ 48
-  pub chapter4 : flags / 64 % 2 ≡ 1 → flags / 4 % 4 ≡ 0 → time % 2 ^ 16 ≡ 0
-  pub ieee1588 : flags / 64 % 2 ≡ 1 → flags / 4 % 4 ≡ 1 → time % 2 ^ 32 < 1000000000
-
--- the channel word of a 0x30 body with n blocks: bits 31-18 are zero. Type (bits 17-16) 00: the counter (bits 15-0) is the number of blocks.
--- Type 01: one block, counter 1. Types 10 and 11: one block, counter at least 2
-pub record MessageWord (word n : ℕ) : Type 0 where
-  pub reserved : word < 2 ^ 18
-  pub many : word / 2 ^ 16 ≡ 0 → word % 2 ^ 16 ≡ n
-  pub single : word / 2 ^ 16 ≡ 1 → (word % 2 ^ 16 ≡ 1) × (n ≡ 1)
-  pub segment : 2 ≤ word / 2 ^ 16 → (2 ≤ word % 2 ^ 16) × (n ≡ 1)
+use Rattle.body.specs.declared.Form.the-variants.{Stamped}
+use Rattle.promises.specs.Numbers.{TimeInForm}
 
 -- a block: n, 1 to 65,535, is bits 15-0 of the ID word of 4 bytes; its time, of 8 bytes, is in form, or 0 where none is stored
 pub record BlockKept (flags : ℕ) (form : Form) (e : Entry) : Type 0 where
@@ -38,20 +22,22 @@ pub record BlockKept (flags : ℕ) (form : Form) (e : Entry) : Type 0 where
   pub none : form ≢ Stamped → e .time ≡ 0
   pub in-form : form ≡ Stamped → TimeInForm flags (e .time)
 
-abbrev pub AllKept : ℕ → Form → List Entry → Type 0
-AllKept flags form [] = Unit {0}
-AllKept flags form (e ∷ es) = BlockKept flags form e × AllKept flags form es
-
--- bs is its channel word followed by these blocks, one or more, to its end
+-- bs is a right channel word of 4 bytes followed by these blocks, as many as it asks for, to its end
 pub record BodyKept (kind flags : ℕ) (bs : List ℕ) (es : List Entry) : Type 0 where
-  -- the form of its blocks
+  -- the form of its blocks, and how many are asked for
   pub form : Form
-  -- a 4-byte channel word
+  pub asked : Asked
   pub long : 4 ≤ length bs
-  pub some : 1 ≤ length es
-  -- 0x30 (Message): always a time stamp
-  pub message : kind ≡ 0x30 → (form ≡ Stamped) × MessageWord (field bs 0 4) (length es)
-  -- 0x50 (UART): bits 30-0 of the channel word are zero; a time stamp only if bit 31 is set
-  pub uart : kind ≡ 0x50 → (field bs 0 4 % 2 ^ 31 ≡ 0) × (2 ^ 31 ≤ field bs 0 4 → form ≡ Stamped) × (field bs 0 4 < 2 ^ 31 → form ≡ Plain)
+  pub word : ChannelWord kind (field bs 0 4) form asked
+  pub number : AsMany asked (length es)
   pub is : bs ≡ take 4 bs ++ blocksBytes form es
-  pub blocks : AllKept flags form es
+  pub blocks : Each (BlockKept flags form) es
+
+-- 15: a body of a type that we open keeps the layout, as the blocks of some messages
+abbrev pub MessagesKept : ℕ → ℕ → List ℕ → Type 0
+MessagesKept kind flags bs = OpenedType kind → (es : List Entry) × BodyKept kind flags bs es
+
+-- and where it does not, the place of the fault, counted from its first byte: the channel word, the first byte of the block at fault or of the
+-- bytes left over, or where a missing block should begin
+abbrev pub BodyAtFault : ℕ → ℕ → List ℕ → ℕ → Type 0
+BodyAtFault kind flags bs at = AtFault kind (BlockKept flags) bs at

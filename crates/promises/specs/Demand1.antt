@@ -6,10 +6,9 @@ use mathlib.Core.Logic.{_⊎_, _≢_}
 use Prim.Native.Nat.{ℕ, _+_, _≤_}
 use lib.ListN.{length, drop}
 use Rattle.units.specs.Units.{Bytes, part}
-use Rattle.body.specs.Answers.{noMessage}
 use Rattle.builder.specs.Build.{bufAfter, stepTold}
 use Rattle.builder.specs.declared.Step.{Step}
-use Rattle.packet.specs.Read.{inside, window, readPacket, noPacket, packetTold}
+use Rattle.packet.specs.Read.{inside, window, readPacket, packetTold}
 use Rattle.terms.specs.Refusals.{noRefusal}
 use Rattle.packet.specs.Messages.{listPacket, listAfter, starts, lengths, messagePacket, listTold, entries, messageTold}
 use Rattle.packet.specs.Write.{outAfter, writeTold}
@@ -19,7 +18,7 @@ use Rattle.packet.specs.declared.PacketWrite.{PacketWrite}
 use Rattle.recording.specs.Reading.{readRecording}
 use Rattle.recording.specs.Handed.{HandsOut}
 use Rattle.promises.specs.Refusals.{readerRefusals, listerRefusals, messageRefusals}
-use Rattle.promises.specs.Endings.{FromTable, Ends, readTold, listedTold, givenTold, Placed}
+use Rattle.promises.specs.Endings.{FromTable, zeroPacket, zeroMessage, Ends, readTold, listedTold, givenTold, Placed}
 
 -- the three calls on the packet at `start` say the same of two buffers, with these ends; the lists' entries too, whatever they held before
 pub record Alike (start : ℕ) (a : List ℕ) (end : ℕ) (b : List ℕ) (end′ : ℕ) : Type 0 where
@@ -41,13 +40,13 @@ pub record Demand1 : Type 0 where
   -- and place fixed." Fixed: no two outcomes satisfy what a call promises (proofs/Once.antt); which number: Document01.read-first.
 
   -- the reader: a packet, or one of the reader's refusals, and its place
-  pub read-ends : (buf : List ℕ) (start end : ℕ) → Ends readerRefusals readTold noPacket (packetTold (readPacket buf start end))
+  pub read-ends : (buf : List ℕ) (start end : ℕ) → Ends readerRefusals readTold zeroPacket (packetTold (readPacket buf start end))
   pub read-placed : (buf : List ℕ) → Bytes buf → (start end : ℕ) → packetTold (readPacket buf start end) .refusal .number ≢ 0
-      → Placed buf start end (packetTold (readPacket buf start end) .refusal)
+      → Placed (window buf start end) start (packetTold (readPacket buf start end) .refusal)
   -- the lister, with lists of any length: a count, or one of the reader's or 16
   pub list-ends : (buf : List ℕ) (start end len₁ len₂ : ℕ) → Ends listerRefusals listedTold 0 (listTold (listPacket buf start end len₁ len₂))
   -- one message, of any number: it, or one of the reader's or 17
-  pub message-ends : (buf : List ℕ) (start end number : ℕ) → Ends messageRefusals givenTold noMessage (messageTold (messagePacket buf start end number))
+  pub message-ends : (buf : List ℕ) (start end number : ℕ) → Ends messageRefusals givenTold zeroMessage (messageTold (messagePacket buf start end number))
   -- a recording: at the exact end of a window in its buffer, or at a place where the reader gives that refusal
   pub recording-ends : (buf : List ℕ) (start end : ℕ)
       → ((inside buf start end ≡ true) × (readRecording buf start end .reached ≡ end) × (readRecording buf start end .refusal ≡ noRefusal))

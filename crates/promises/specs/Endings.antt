@@ -3,26 +3,51 @@ use mathlib.Core.Path.{_≡_}
 use mathlib.Core.List.{List}
 use mathlib.Core.Logic.{_⊎_, _≢_}
 use Prim.Native.Nat.{ℕ, _+_}
-use Rattle.body.specs.Faults.{AtFault}
 use Rattle.terms.specs.declared.Refusal.{Refusal}
 use Rattle.body.specs.declared.Message.{Message}
-use Rattle.frame.specs.Header.{flagsIn, kindIn, bodyAt, bodyIn}
-use Rattle.frame.specs.Rules.{messageRule}
-use Rattle.packet.specs.Read.{window, PacketTold}
+use Rattle.packet.specs.Read.{PacketTold}
 use Rattle.terms.specs.Refusals.{noRefusal}
 use Rattle.packet.specs.Messages.{ListTold, MessageTold}
 use Rattle.packet.specs.Write.{WriteTold}
+use Rattle.packet.specs.declared.Part.{Part}
 use Rattle.packet.specs.declared.Packet.{Packet}
 use Rattle.promises.specs.Refusals.{OneOf}
+use Rattle.promises.specs.Bodies.{BodyAtFault}
+use Rattle.promises.specs.Keeps.{flags, type, body, bodyBytes}
+
+-- ---- "all other results are zero", field by field
+
+abbrev pub zeroPart : Part
+zeroPart = record { at = 0; length = 0 }
+
+abbrev pub zeroPacket : Packet
+zeroPacket =
+    record {
+      fields = record { channel = 0; version = 0; sequence = 0; flags = 0; kind = 0; rtc = 0; time = 0 };
+      length = 0;
+      «data_length» = 0;
+      «header_sum» = 0;
+      «data_sum» = 0;
+      header = zeroPart;
+      secondary = zeroPart;
+      body = zeroPart;
+      filler = zeroPart;
+      sum = zeroPart;
+    }
+
+abbrev pub zeroMessage : Message
+zeroMessage = record { time = 0; id = 0; start = 0; length = 0 }
+
+-- ---- the two ways to end
 
 -- a refusal of the table's, one of these
 abbrev pub FromTable : List ℕ → Refusal → Type 0
 FromTable numbers r = OneOf (r .number) numbers
 
--- what is told is some value and no refusal, or the value `nothing` and a refusal of the table's
+-- what is told is some value and no refusal, or the value `zeros` and a refusal of the table's
 abbrev pub Ends : {Value Telling : Type 0} → List ℕ → (Refusal → Value → Telling) → Value → Telling → Type 0
-Ends {Value} {Telling} numbers tell nothing t =
-    ((v : Value) × (t ≡ tell noRefusal v)) ⊎ ((r : Refusal) × (t ≡ tell r nothing) × FromTable numbers r)
+Ends {Value} {Telling} numbers tell zeros t =
+    ((v : Value) × (t ≡ tell noRefusal v)) ⊎ ((r : Refusal) × (t ≡ tell r zeros) × FromTable numbers r)
 
 -- a refusal and a value, as each call tells them
 abbrev pub readTold : Refusal → Packet → PacketTold
@@ -37,14 +62,9 @@ givenTold r m = record { refusal = r; message = m }
 abbrev pub writtenTold : Refusal → ℕ → WriteTold
 writtenTold r n = record { refusal = r; length = n }
 
--- where the body of the packet at the start of a window's bytes w is at fault: at the channel word, at the first byte of the block at fault
--- or of the bytes left over, or where a missing block should begin; counted from the body's first byte
-abbrev pub BodyAtFault : List ℕ → ℕ → Type 0
-BodyAtFault w at = AtFault (kindIn w) (messageRule (flagsIn w)) (bodyIn w) at
-
--- where the reader's refusals are placed: 15 where the packet's body is at fault, all others at the start; none gives room
-pub record Placed (buf : List ℕ) (start end : ℕ) (r : Refusal) : Type 0 where
+-- where the reader's refusals of a packet at the start of a window are placed; w: the window's bytes. 15 where the packet's body is at fault, all
+-- others at the start; none gives room
+pub record Placed (w : List ℕ) (start : ℕ) (r : Refusal) : Type 0 where
   pub room : r .room ≡ 0
   pub outer : r .number ≢ 15 → r .place ≡ start
-  pub inner : r .number ≡ 15
-      → (at : ℕ) × (r .place ≡ start + bodyAt (flagsIn (window buf start end)) + at) × BodyAtFault (window buf start end) at
+  pub inner : r .number ≡ 15 → (at : ℕ) × (r .place ≡ start + body w + at) × BodyAtFault (type w) (flags w) (bodyBytes w) at

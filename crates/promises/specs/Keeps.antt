@@ -2,24 +2,15 @@
 -- table of refusals. No test of the reader's is cited: that the reader's tests say the same is proved in proofs/Keeping.antt.
 use mathlib.Core.Path.{_≡_}
 use mathlib.Core.List.{List, [], _∷_}
-use mathlib.Core.Logic.{_⊎_, _≢_}
 use Prim.Native.Nat.{ℕ, _+_, _-_, _*_, _/_, _%_, _^_, _≤_, _<_}
 use lib.ListN.{length, take, drop}
 use Rattle.units.specs.Units.{part, field, sumUnits}
-use Rattle.frame.specs.Sums.{sumWidth}
-use Rattle.body.specs.Blocks.{Entry}
 use Rattle.frame.specs.Header.{byte}
 use Rattle.promises.specs.Refusals.{OneOf, readerRefusals}
-use Rattle.promises.specs.Bodies.{openedTypes, BodyKept}
+use Rattle.promises.specs.Numbers.{bit7, format, width, VersionKept, TypeKept, FlagsKept, ChannelKept, LengthsKept, InFormat}
+use Rattle.promises.specs.Bodies.{MessagesKept}
 
--- defined types: 0x00-0x04, 0x09, 0x0A, 0x11, 0x12, 0x19, 0x1A, 0x21, 0x29, 0x30, 0x38, 0x40-0x44, 0x48-0x4A, 0x50, 0x58, 0x59, 0x60,
--- 0x68, 0x69, 0x70-0x72, 0x78-0x7A. That is 35; all others are reserved
-abbrev pub definedTypes : List ℕ
-definedTypes =
-    0x00 ∷ 0x01 ∷ 0x02 ∷ 0x03 ∷ 0x04 ∷ 0x09 ∷ 0x0A ∷ 0x11 ∷ 0x12 ∷ 0x19 ∷ 0x1A ∷ 0x21 ∷ 0x29 ∷ 0x30 ∷ 0x38 ∷ 0x40 ∷ 0x41 ∷ 0x42 ∷ 0x43 ∷ 0x44
-    ∷ 0x48 ∷ 0x49 ∷ 0x4A ∷ 0x50 ∷ 0x58 ∷ 0x59 ∷ 0x60 ∷ 0x68 ∷ 0x69 ∷ 0x70 ∷ 0x71 ∷ 0x72 ∷ 0x78 ∷ 0x79 ∷ 0x7A ∷ []
-
--- the fields that the rules speak of (11.2.1.1), in a window's bytes w
+-- ---- what the rules speak of (11.2.1.1), in a window's bytes w
 
 abbrev pub P : List ℕ → ℕ
 P w = field w 4 4
@@ -33,23 +24,22 @@ flags w = byte w 14
 abbrev pub type : List ℕ → ℕ
 type w = byte w 15
 
--- bit 7, bit 6, and the time format, bits 3-2
-abbrev pub bit7 : List ℕ → ℕ
-bit7 w = flags w / 128 % 2
-
-abbrev pub bit6 : List ℕ → ℕ
-bit6 w = flags w / 64 % 2
-
-abbrev pub format : List ℕ → ℕ
-format w = flags w / 4 % 4
-
--- the sum's width in bytes, by bits 1-0: none, 8, 16 or 32 bits
-abbrev pub width : List ℕ → ℕ
-width w = sumWidth (flags w % 4)
-
--- where the body begins
+-- where the body begins, and its bytes
 abbrev pub body : List ℕ → ℕ
-body w = 24 + 12 * bit7 w
+body w = 24 + 12 * bit7 (flags w)
+
+abbrev pub bodyBytes : List ℕ → List ℕ
+bodyBytes w = part w (body w) (D w)
+
+-- the sum fills the last bytes of the packet
+abbrev pub sumPlace : List ℕ → ℕ
+sumPlace w = P w - width (flags w)
+
+-- the secondary time: low long word, high long word; high × 2^32 + low
+abbrev pub time : List ℕ → ℕ
+time w = field w 24 4 + 2 ^ 32 * field w 28 4
+
+-- ---- the rules
 
 -- rule n of the table, of a packet at the start of a window; w: the window's bytes
 pub data Rule (buf : List ℕ) (start end : ℕ) (w : List ℕ) : ℕ → Type 0 where
@@ -61,40 +51,28 @@ pub data Rule (buf : List ℕ) (start end : ℕ) (w : List ℕ) : ℕ → Type 0
   synced : take 2 w ≡ 0x25 ∷ 0xEB ∷ [] → Rule buf start end w 3
   -- 4: the header sum is the sum of the eleven 16-bit words ahead of it, modulo 65,536
   headerSum : field w 22 2 ≡ sumUnits 2 11 w % 65536 → Rule buf start end w 4
-  -- 5: version is 0x01 to 0x09
-  version : (0x01 ≤ byte w 12) × (byte w 12 ≤ 0x09) → Rule buf start end w 5
-  -- 6: the type is a defined one
-  defined : OneOf (type w) definedTypes → Rule buf start end w 6
-  -- 7: time format 11 is reserved, refused even where bit 7 is 0; if bit 6 is 1, bit 7 must be 1
-  flagged : format w ≢ 3 → (bit6 w ≡ 1 → bit7 w ≡ 1) → Rule buf start end w 7
-  -- 8: channel 0 only with types 0x01 and 0x04
-  channel : (field w 2 2 ≡ 0 → (type w ≡ 0x01) ⊎ (type w ≡ 0x04)) → Rule buf start end w 8
-  -- 9: P is a multiple of 4, at most 524,288, or 134,217,728 for type 0x01; D is at least 1; P = 24, plus 12 if bit 7 is set, plus D, plus
-  -- filler of 0 to 3 bytes, plus the sum's width
-  lengths : P w % 4 ≡ 0
-      → ((P w ≤ 524288) ⊎ ((type w ≡ 0x01) × (P w ≤ 134217728)))
-      → 1 ≤ D w
-      → ((filler : ℕ) × (filler ≤ 3) × (P w ≡ 24 + 12 * bit7 w + D w + filler + width w))
-      → Rule buf start end w 9
+  -- 5 to 9: version, type, flags, channel, lengths
+  version : VersionKept (byte w 12) → Rule buf start end w 5
+  defined : TypeKept (type w) → Rule buf start end w 6
+  flagged : FlagsKept (flags w) → Rule buf start end w 7
+  channel : ChannelKept (field w 2 2) (type w) → Rule buf start end w 8
+  lengths : LengthsKept (type w) (flags w) (P w) (D w) → Rule buf start end w 9
   -- 10: P is within the window
   whole : P w ≤ length w → Rule buf start end w 10
   -- 11: the secondary header's last 2 bytes are the sum of the five 16-bit words before it, modulo 65,536
-  secondarySum : (bit7 w ≡ 1 → field w 34 2 ≡ sumUnits 2 5 (drop 24 w) % 65536) → Rule buf start end w 11
-  -- 12: its 2 reserved bytes are zero; Chapter 4 time: the low 16 bits are zero; IEEE 1588: the low long word is below 1,000,000,000;
-  -- extended counter: any
-  secondary : (bit7 w ≡ 1 → field w 32 2 ≡ 0)
-      → (bit7 w ≡ 1 → format w ≡ 0 → field w 24 2 ≡ 0)
-      → (bit7 w ≡ 1 → format w ≡ 1 → field w 24 4 < 1000000000)
-      → Rule buf start end w 12
+  secondarySum : (bit7 (flags w) ≡ 1 → field w 34 2 ≡ sumUnits 2 5 (drop 24 w) % 65536) → Rule buf start end w 11
+  -- 12: its 2 reserved bytes are zero, and its time is in form
+  secondary : (bit7 (flags w) ≡ 1 → field w 32 2 ≡ 0) → (bit7 (flags w) ≡ 1 → InFormat (format (flags w)) (time w)) → Rule buf start end w 12
   -- 13: the last bytes of the packet, if it has a sum, are that of body and filler in units of its own width, counted from the body's first
   -- byte, modulo 2 to that width
-  dataSum : (0 < width w
-      → field w (P w - width w) (width w) ≡ sumUnits (width w) ((P w - width w - body w) / width w) (drop (body w) w) % 256 ^ width w)
+  dataSum : (0 < width (flags w)
+      → field w (sumPlace w) (width (flags w))
+      ≡ sumUnits (width (flags w)) ((sumPlace w - body w) / width (flags w)) (drop (body w) w) % 256 ^ width (flags w))
       → Rule buf start end w 13
   -- 14: filler bytes, from behind the body to the sum, are zero
-  filler : ((i : ℕ) → body w + D w ≤ i → i < P w - width w → byte w i ≡ 0) → Rule buf start end w 14
-  -- 15: a body of a type that we open is its channel word and the blocks of some messages
-  messages : (OneOf (type w) openedTypes → (es : List Entry) × BodyKept (type w) (flags w) (part w (body w) (D w)) es) → Rule buf start end w 15
+  filler : ((i : ℕ) → body w + D w ≤ i → i < sumPlace w → byte w i ≡ 0) → Rule buf start end w 14
+  -- 15: the body's layout
+  messages : MessagesKept (type w) (flags w) (bodyBytes w) → Rule buf start end w 15
 
 -- every rule is kept
 abbrev pub Keeps : List ℕ → ℕ → ℕ → List ℕ → Type 0

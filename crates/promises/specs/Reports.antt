@@ -1,49 +1,47 @@
 -- What the calls report of an accepted packet, its parts and its messages, is what is there (demand 2).
 use mathlib.Core.Path.{_≡_}
 use mathlib.Core.List.{List}
-use Prim.Native.Nat.{ℕ, _+_, _-_, _*_, _/_, _%_, _^_, _≤_, _<_, min}
+use Prim.Native.Nat.{ℕ, _+_, _-_, _*_, _^_, _≤_, _<_, min}
 use lib.ListN.{length, take, getD}
 use Rattle.units.specs.Units.{part, field}
-use Rattle.frame.specs.Sums.{sumWidth}
 use Rattle.terms.specs.Refusals.{refused, noRefusal, needing}
-use Rattle.body.specs.Answers.{noMessage}
 use Rattle.body.specs.Blocks.{Entry, noEntry, blocksBytes, messageOn}
 use Rattle.body.specs.declared.Form.{Form}
 use Rattle.body.specs.declared.Message.{Message}
-use Rattle.frame.specs.Header.{byte, flagsIn, bodyAt}
+use Rattle.frame.specs.Header.{byte}
 use Rattle.packet.specs.Read.{window, partAt}
 use Rattle.packet.specs.declared.Packet.{Packet}
 use Rattle.packet.specs.Messages.{listPacket, listAfter, starts, lengths, messagePacket, listTold, messageTold}
-use Rattle.promises.specs.Endings.{listedTold, givenTold}
+use Rattle.promises.specs.Endings.{zeroMessage, listedTold, givenTold}
+use Rattle.promises.specs.Numbers.{bit7, width}
+use Rattle.promises.specs.Keeps as Of
 
 -- the packet told of is the one at the start of a window's bytes w, which stand at `at`: each field of its header (document 01, "Primary
 -- header"), the secondary time, the data sum, and the place and length of each part
 pub record PacketThere (w : List ℕ) (at : ℕ) (p : Packet) : Type 0 where
   pub channel : p .fields .channel ≡ field w 2 2
-  pub long : p .length ≡ field w 4 4
-  pub «data_length» : p .«data_length» ≡ field w 8 4
+  pub long : p .length ≡ Of.P w
+  pub «data_length» : p .«data_length» ≡ Of.D w
   pub version : p .fields .version ≡ byte w 12
   pub sequence : p .fields .sequence ≡ byte w 13
-  pub flags : p .fields .flags ≡ byte w 14
-  pub kind : p .fields .kind ≡ byte w 15
+  pub flags : p .fields .flags ≡ Of.flags w
+  pub kind : p .fields .kind ≡ Of.type w
   pub rtc : p .fields .rtc ≡ field w 16 6
   pub «header_sum» : p .«header_sum» ≡ field w 22 2
-  -- low long word, high long word; 0 if absent
-  pub time : byte w 14 / 128 % 2 ≡ 1 → p .fields .time ≡ field w 24 4 + 2 ^ 32 * field w 28 4
-  pub no-time : byte w 14 / 128 % 2 ≡ 0 → p .fields .time ≡ 0
+  -- 0 if absent
+  pub time : bit7 (Of.flags w) ≡ 1 → p .fields .time ≡ Of.time w
+  pub no-time : bit7 (Of.flags w) ≡ 0 → p .fields .time ≡ 0
   -- the last bytes of the packet, 0 if absent
-  pub «data_sum» : p .«data_sum» ≡ field w (field w 4 4 - sumWidth (byte w 14 % 4)) (sumWidth (byte w 14 % 4))
+  pub «data_sum» : p .«data_sum» ≡ field w (Of.sumPlace w) (width (Of.flags w))
   pub header : p .header ≡ partAt at 24
-  pub secondary : p .secondary ≡ partAt (at + 24) (12 * (byte w 14 / 128 % 2))
-  pub body : p .body ≡ partAt (at + (24 + 12 * (byte w 14 / 128 % 2))) (field w 8 4)
-  pub filler : p .filler
-      ≡ partAt (at + (24 + 12 * (byte w 14 / 128 % 2) + field w 8 4))
-      (field w 4 4 - sumWidth (byte w 14 % 4) - (24 + 12 * (byte w 14 / 128 % 2) + field w 8 4))
-  pub sum : p .sum ≡ partAt (at + (field w 4 4 - sumWidth (byte w 14 % 4))) (sumWidth (byte w 14 % 4))
+  pub secondary : p .secondary ≡ partAt (at + 24) (12 * bit7 (Of.flags w))
+  pub body : p .body ≡ partAt (at + Of.body w) (Of.D w)
+  pub filler : p .filler ≡ partAt (at + (Of.body w + Of.D w)) (Of.sumPlace w - (Of.body w + Of.D w))
+  pub sum : p .sum ≡ partAt (at + Of.sumPlace w) (width (Of.flags w))
 
--- the k-th of some blocks as a message, its start counted from the packet's first byte: behind the channel word and the blocks before it
-abbrev pub messageFor : ℕ → Form → List Entry → ℕ → Message
-messageFor flags form es k = messageOn form (bodyAt flags + 4 + length (blocksBytes form (take k es))) (getD es k noEntry)
+-- the k-th of some blocks as a message of the packet at the start of w, its start counted from the packet's first byte: behind the channel word and the blocks before it
+abbrev pub messageFor : List ℕ → Form → List Entry → ℕ → Message
+messageFor w form es k = messageOn form (Of.body w + 4 + length (blocksBytes form (take k es))) (getD es k noEntry)
 
 -- of the packet at the start of a window, whose body is its channel word and these blocks, with time stamps or without, the calls report
 -- these, and nothing else
@@ -54,13 +52,13 @@ pub record Reports (buf : List ℕ) (start end : ℕ) (es : List Entry) (form : 
   -- and its two lists hold the start and the length of each
   pub listed : (starts₀ lengths₀ : List ℕ) (k : ℕ) → k < length es → length es ≤ min (length starts₀) (length lengths₀)
       → (getD (listAfter (listPacket buf start end (length starts₀) (length lengths₀)) (starts (window buf start end)) starts₀) k 0
-      ≡ messageFor (flagsIn (window buf start end)) form es k .start)
+      ≡ messageFor (window buf start end) form es k .start)
       × (getD (listAfter (listPacket buf start end (length starts₀) (length lengths₀)) (lengths (window buf start end)) lengths₀) k 0
-      ≡ messageFor (flagsIn (window buf start end)) form es k .length)
+      ≡ messageFor (window buf start end) form es k .length)
   -- each is given by its number, and no other
   pub given : (k : ℕ) → k < length es
-      → messageTold (messagePacket buf start end k) ≡ givenTold noRefusal (messageFor (flagsIn (window buf start end)) form es k)
-  pub missing : (k : ℕ) → length es ≤ k → messageTold (messagePacket buf start end k) ≡ givenTold (refused 17 start) noMessage
+      → messageTold (messagePacket buf start end k) ≡ givenTold noRefusal (messageFor (window buf start end) form es k)
+  pub missing : (k : ℕ) → length es ≤ k → messageTold (messagePacket buf start end k) ≡ givenTold (refused 17 start) zeroMessage
   -- and its bytes are in the buffer, at that start and of that length
   pub bytes : (k : ℕ) → k < length es
-      → part buf (start + messageFor (flagsIn (window buf start end)) form es k .start) (length (getD es k noEntry .bytes)) ≡ getD es k noEntry .bytes
+      → part buf (start + messageFor (window buf start end) form es k .start) (length (getD es k noEntry .bytes)) ≡ getD es k noEntry .bytes

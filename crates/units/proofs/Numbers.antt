@@ -38,6 +38,12 @@ bytes-take n xs h = bytes-left (take n xs) (drop n xs) (rw take-append-drop h)
 pub bytes-drop : (n : ℕ) (xs : List ℕ) → Bytes xs → Bytes (drop n xs)
 bytes-drop n xs h = bytes-right (take n xs) (drop n xs) (rw take-append-drop h)
 
+-- each element below 256 makes a list of bytes
+pub bytes-known : (bs : List ℕ) → ((i : ℕ) → getD bs i 0 < 256) → Bytes bs
+unfolding Bytes
+bytes-known [] each = tt
+bytes-known (b ∷ bs) each = (each 0, bytes-known bs (λ i. each (suc i)))
+
 -- ---- a number and its bytes, both ways
 
 pub length-bytesOf : (n v : ℕ) → length (bytesOf n v) ≡ n
