@@ -1,2 +1,3 @@
 pub mod Giving
 pub mod Once
+pub mod Interface

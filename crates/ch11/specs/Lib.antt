@@ -1,3 +1,4 @@
 pub mod Words
 pub mod Given
 pub mod Calls
+pub mod Interface

@@ -3,7 +3,7 @@ use mathlib.Core.Path.{_≡_, refl, sym, ap, _∙_}
 use mathlib.Core.List.{List}
 use mathlib.Core.Bool.{Bool, true, false, false≢true}
 use mathlib.Core.Logic.{_≢_, _↔_}
-use Prim.Native.Nat.{ℕ, _^_, _≤_, _<_}
+use Prim.Native.Nat.{ℕ, _^_, _<_}
 use native.Mathlib.Omega.{arith}
 use lib.ListN.{length}
 use Rattle.units.specs.Units.{Bytes, field}
@@ -13,15 +13,15 @@ use Rattle.terms.specs.declared.Refusal.{Refusal}
 use Rattle.body.specs.Walk.{opens, openBody, stampLength, lengthBy}
 use Rattle.body.specs.Answers.{checkBody}
 use Rattle.body.specs.Blocks.{Entry, Fits, entriesIn, BodyOf}
-use Rattle.body.specs.Layout.{OpenedType, Asked, exactly, toTheEnd, ChannelWord, many, single, segment, timed, untimed, AsMany}
+use Rattle.body.specs.Layout.{Asked, exactly, toTheEnd, ChannelWord, many, single, segment, timed, untimed, AsMany}
 use Rattle.body.specs.declared.Form.{Form}
 use Rattle.body.specs.declared.Form.the-variants.{Stamped, Plain}
-use Rattle.body.specs.declared.Shape.{Shape}
 use Rattle.body.specs.declared.Checked.{Checked}
 use Rattle.body.specs.declared.Checked.the-variants.{Counted, Faulty}
 use Rattle.body.proofs.ChannelWords.{opens-exactly, countedBy, countBy, shapeOf, word-says, word-made}
 use Rattle.body.proofs.Exactly.{body-of-blocks, body-is-blocks}
-use Rattle.body.proofs.Faults.{RightBy, fault-at, each-other, fault-other}
+use Rattle.body.specs.Faults.{AtFault}
+use Rattle.body.proofs.Faults.{RightBy, fault-at, fault-once, each-other, fault-other}
 use Rattle.frame.specs.Rules.{messageRule}
 use Rattle.promises.specs.Bodies.{BlockKept, BodyKept, MessagesKept, BodyAtFault}
 use Rattle.promises.proofs.NumbersKept.{message-time-exactly}
@@ -166,8 +166,14 @@ module _ (kind flags : ℕ) (bs : List ℕ) where
       let n : length es ≡ length ds = cc (sym (a .0) ∙ b .0) in
       sym (a .1) ∙ ap (entriesIn kind rule bs) n ∙ b .1
 
-  -- the place of the fault
+  -- the place of the fault, and no other
   pub fault-kept : (r : Refusal) → Bytes bs → checkBody kind (messageRule flags) bs ≡ Faulty r → BodyAtFault kind flags bs (r .place)
   fault-kept r raw e =
       fault-other (RightBy (messageRule flags)) (BlockKept flags) (λ form x. (block-says flags form x, block-made flags form x)) kind bs (r .place)
       (fault-at kind (messageRule flags) bs r raw e)
+
+  pub fault-kept-once : Bytes bs → (a b : ℕ) → BodyAtFault kind flags bs a → BodyAtFault kind flags bs b → a ≡ b
+  fault-kept-once raw a b at-a at-b =
+      let as-tested : (p : ℕ) → BodyAtFault kind flags bs p → AtFault kind (RightBy (messageRule flags)) bs p =
+      fault-other (BlockKept flags) (RightBy (messageRule flags)) (λ form x. (block-made flags form x, block-says flags form x)) kind bs in
+      fault-once kind (messageRule flags) bs a b raw (as-tested a at-a) (as-tested b at-b)

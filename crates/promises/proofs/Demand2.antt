@@ -10,7 +10,6 @@ use Rattle.units.proofs.Parts.{length-part, part-add, field-add}
 use Rattle.body.specs.declared.Form.{Form}
 use Rattle.frame.specs.Header.{flagsIn, kindIn, bodyIn, fieldsIn}
 use Rattle.frame.proofs.Stages.{the-time, no-time}
-use Rattle.body.specs.Walk.{opens}
 use Rattle.packet.specs.Read.{window, packetIn, readPacket, Together, packetTold}
 use Rattle.terms.specs.Refusals.{noRefusal}
 use Rattle.frame.specs.Contents.{Contents, contentsLength}

@@ -1,33 +1,25 @@
 -- A packet is accepted exactly when every rule holds, and refused by the first that does not: each of the reader's tests says what document 01
 -- says.
-use mathlib.Core.Path.{_≡_, refl, sym, ap, _∙_}
+use mathlib.Core.Path.{_≡_, sym, ap, _∙_}
 use mathlib.Core.List.{List, [], _∷_, _++_}
-use mathlib.Core.Bool.{Bool, true, false, not, _&&_, _||_}
-use mathlib.Core.Logic.{_↔_, _⊎_, inl, inr, ⊎-elim, _≢_}
-use Prim.Native.Nat.{ℕ, zero, suc, _+_, _-_, _*_, _/_, _%_, _^_, _≤_, _<_}
+use mathlib.Core.Bool.{true}
+use mathlib.Core.Logic.{_↔_}
+use Prim.Native.Nat.{ℕ, _+_, _-_, _*_, _/_, _%_, _^_, _≤_, _<_}
 use native.Mathlib.Omega.{arith}
 use native.Mathlib.Decide.{decLe}
 use native.Mathlib.Nat.{mod-one, mul-div-le}
 use lib.ListN.{length, take, drop, getD, length-take, take-append-drop, getD-replicate}
 use lib.Seq.{getD-take, getD-drop}
-use lib.Dec.{leb, eqb}
-use borrow.Author.Tests.{eqb-true, eqb-false, eq-eqb, ne-eqb, leb-true, le-leb, not-true}
+use lib.Dec.{eqb}
+use borrow.Author.Tests.{eqb-true, eq-eqb, leb-true, le-leb}
 use Rattle.units.specs.Units.{Bytes, part, field, sumUnits, checksum, zeros}
-use Rattle.units.specs.Choice.{pick}
-use Rattle.units.proofs.Choices.{and-true, or-true}
+use Rattle.units.proofs.Choices.{and-true}
 use Rattle.units.proofs.Numbers.{zeros-true, zeros-are}
 use Rattle.units.proofs.Parts.{length-part, bytes-part, field-part, field-zero, field-add}
 use Rattle.units.proofs.Sums.{sum-prefix, summed-says, summed-made}
 use Rattle.terms.specs.Times.{timeOk, ruleOf}
-use Rattle.body.specs.Walk.{opens, openBody}
-use Rattle.body.specs.Answers.{checkBody}
-use Rattle.body.specs.Blocks.{Entry, entriesIn, BodyOf}
-use Rattle.terms.specs.declared.TimeRule.{TimeRule}
-use Rattle.body.specs.declared.Checked.the-variants.{Counted}
-use Rattle.body.proofs.Exactly.{body-of-blocks, body-is-blocks}
-use Rattle.frame.specs.Header.{byte, sync, flagsIn, kindIn, channelIn, versionIn, secondaryBit, absoluteBit, timeFormat, sumLength, unfilledLength, bodyAt, secondaryIn, bodyIn, reservedIn, timeIn, fieldsIn}
+use Rattle.frame.specs.Header.{byte, sync, flagsIn, kindIn, channelIn, versionIn, secondaryBit, timeFormat, unfilledLength, bodyAt, secondaryIn, bodyIn, reservedIn, timeIn, fieldsIn}
 use Rattle.frame.specs.Rules as Rules
-use Rattle.frame.specs.Rules.{messageRule}
 use Rattle.frame.specs.Table.{line, headLines, valueLines, wholeLines, secondaryLines, trailerLines, frameLines}
 use Rattle.frame.proofs.Tables.{holds}
 use Rattle.frame.proofs.Stages.{no-secondary}

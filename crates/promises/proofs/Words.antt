@@ -1,19 +1,16 @@
 -- The words of the promises mean what they are said to mean.
-use mathlib.Core.Path.{_≡_, refl, ap, _∙_}
-use mathlib.Core.List.{List, [], _∷_, append-assoc}
-use mathlib.Core.Logic.{_↔_}
-use Prim.Native.Nat.{ℕ, zero, suc, _+_, _*_, _<_}
+use mathlib.Core.Path.{_≡_, refl, _∙_}
+use mathlib.Core.List.{List, append-assoc}
+use Prim.Native.Nat.{ℕ, _+_, _<_}
 use native.Mathlib.Omega.{arith}
 use native.Mathlib.Numerals.{add-one}
 use lib.ListN.{length, getD, take, drop}
 use lib.Seq.{getD-take, getD-drop}
-use Rattle.units.specs.Units.{Bytes, part, num, field, bytesOf, sumUnits}
+use Rattle.units.specs.Units.{part, num, bytesOf, sumUnits}
 use Rattle.units.proofs.Numbers.{bytes-known}
 use Rattle.units.proofs.Parts.{length-part, field-zero, field-suc}
 use Rattle.body.specs.Walk.{stampLength}
-use Rattle.body.specs.Blocks.{Entry, blockBytes, blocksBytes, messageOn}
-use Rattle.body.specs.declared.Form.the-variants.{Stamped, Plain}
-use Rattle.body.specs.declared.Message.{Message}
+use Rattle.body.specs.Blocks.{blockBytes, blocksBytes}
 use Rattle.promises.specs.Words.{Words}
 use Rattle.promises.proofs.Again.{byte-below}
 

@@ -18,6 +18,7 @@ use Rattle.packet.specs.declared.PacketWrite.{PacketWrite}
 use Rattle.recording.specs.Reading.{readRecording}
 use Rattle.recording.specs.Handed.{HandsOut}
 use Rattle.promises.specs.Refusals.{readerRefusals, listerRefusals, messageRefusals}
+use Rattle.promises.specs.Bodies.{BodyAtFault}
 use Rattle.promises.specs.Endings.{FromTable, zeroPacket, zeroMessage, Ends, readTold, listedTold, givenTold, Placed}
 
 -- the three calls on the packet at `start` say the same of two buffers, with these ends; the lists' entries too, whatever they held before
@@ -43,6 +44,8 @@ pub record Demand1 : Type 0 where
   pub read-ends : (buf : List ℕ) (start end : ℕ) → Ends readerRefusals readTold zeroPacket (packetTold (readPacket buf start end))
   pub read-placed : (buf : List ℕ) → Bytes buf → (start end : ℕ) → packetTold (readPacket buf start end) .refusal .number ≢ 0
       → Placed (window buf start end) start (packetTold (readPacket buf start end) .refusal)
+  -- a body is at fault at one place
+  pub placed-once : (kind flags : ℕ) (bs : List ℕ) → Bytes bs → (a b : ℕ) → BodyAtFault kind flags bs a → BodyAtFault kind flags bs b → a ≡ b
   -- the lister, with lists of any length: a count, or one of the reader's or 16
   pub list-ends : (buf : List ℕ) (start end len₁ len₂ : ℕ) → Ends listerRefusals listedTold 0 (listTold (listPacket buf start end len₁ len₂))
   -- one message, of any number: it, or one of the reader's or 17

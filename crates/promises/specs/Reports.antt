@@ -1,7 +1,7 @@
 -- What the calls report of an accepted packet, its parts and its messages, is what is there (demand 2).
 use mathlib.Core.Path.{_≡_}
 use mathlib.Core.List.{List}
-use Prim.Native.Nat.{ℕ, _+_, _-_, _*_, _^_, _≤_, _<_, min}
+use Prim.Native.Nat.{ℕ, _+_, _-_, _*_, _≤_, _<_, min}
 use lib.ListN.{length, take, getD}
 use Rattle.units.specs.Units.{part, field}
 use Rattle.terms.specs.Refusals.{refused, noRefusal, needing}
