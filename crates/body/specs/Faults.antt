@@ -9,8 +9,8 @@ use Rattle.body.specs.Blocks.{Entry, blockBytes, Each, blocksBytes}
 use Rattle.body.specs.Layout.{OpenedType, Asked, exactly, ChannelWord, Due}
 use Rattle.body.specs.declared.Form.{Form}
 
--- bs begins with a right channel word of 4 bytes and these blocks, which keep the rules; then comes `rest`. Right: what it is for a block of a
--- form to keep them
+-- bs begins with a right channel word of 4 bytes and these blocks, which keep the rules; then comes `rest`. Right form e: block e of that form
+-- keeps the rules
 pub record Begins (kind : ℕ) (Right : Form → Entry → Type 0) (bs : List ℕ) (form : Form) (asked : Asked) (es : List Entry) (rest : List ℕ) : Type 0 where
   pub long : 4 ≤ length bs
   pub word : ChannelWord kind (field bs 0 4) form asked

@@ -13,6 +13,7 @@ use Rattle.builder.specs.declared.Draft.{Draft}
 use Rattle.builder.specs.declared.Step.{Step}
 use Rattle.builder.specs.declared.Step.the-variants.{Done, Denied}
 use Rattle.frame.specs.declared.Fields.{Fields}
+use Rattle.ch11.specs.Words.{packetWords, listWords, messageWords, recordingWords, writtenWords, draftWords}
 use Rattle.ch11.specs.Given.{fieldsFit, writeGiven, addGiven}
 use Rattle.ch11.specs.Interface.{Held, Interface}
 use Rattle.ch11.proofs.Giving.{fits}
@@ -95,9 +96,17 @@ module _ (d : Draft) (len time upper n : ℕ) where
       go false q = rw (le-ltb 65535 upper narrow)
 
 pub interface : Interface
-unfolding writeGiven
+unfolding packetWords listWords messageWords recordingWords writtenWords draftWords writeGiven
 interface =
     record {
+      packet = λ t. refl;
+      list = λ t. refl;
+      message = λ t. refl;
+      recording = λ r. refl;
+      written = λ t. refl;
+      draft = λ t. refl;
+      fields-given = λ channel version sequence flags kind rtc time. refl;
+      draft-given = λ number place room used blocks kind rule. refl;
       write-17 = λ c room n. rw (unheld (c .fields) n);
       writes = λ c room h. rw (fit-made (c .fields) h);
       add-17 = given-17;

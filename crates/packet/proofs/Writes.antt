@@ -1,14 +1,17 @@
 -- What the writer says, from what the functions below it say.
 use mathlib.Core.Path.{_≡_, refl, sym, ap, _∙_}
 use mathlib.Core.List.{List, [], _∷_}
-use mathlib.Core.Bool.{Bool, true, false}
-use Prim.Native.Nat.{ℕ, _≤_, _<_}
+use mathlib.Core.Bool.{Bool, true, false, _||_}
+use mathlib.Core.Logic.{⊎-elim}
+use Prim.Native.Nat.{ℕ, _^_, _≤_, _<_}
 use native.Mathlib.Omega.{arith}
 use lib.ListN.{length}
-use lib.Dec.{ltb}
-use borrow.Author.Tests.{lt-ltb, le-ltb, ltb-false, ne-eqb}
+use native.Mathlib.Decide.{decLe}
+use lib.Dec.{eqb, ltb}
+use borrow.Author.Tests.{eqb-true, eq-eqb, ltb-true, lt-ltb, le-ltb, ltb-false, ne-eqb}
 use Rattle.units.specs.Units.{splice}
 use Rattle.units.specs.Choice.{pick}
+use Rattle.units.proofs.Choices.{and-true, or-true}
 use Rattle.terms.specs.Refusals.{refused, needing, placed}
 use Rattle.body.specs.Answers.{checkBody}
 use Rattle.terms.specs.declared.TimeRule.{TimeRule}
@@ -16,7 +19,7 @@ use Rattle.terms.specs.declared.Refusal.{Refusal}
 use Rattle.body.specs.declared.Checked.{Checked}
 use Rattle.body.specs.declared.Checked.the-variants.{Counted, Faulty}
 use Rattle.frame.specs.declared.Fields.{Fields}
-use Rattle.frame.specs.Header.{lengthFor}
+use Rattle.frame.specs.Header.{secondaryBit, lengthFor}
 use Rattle.frame.specs.Rules.{secondaryTimeOk, messageRule}
 use Rattle.frame.specs.Contents.{Contents}
 use Rattle.packet.specs.Read.{contentsChecked}
@@ -26,6 +29,27 @@ use Rattle.frame.proofs.Frames.{valued-says, lengths-say, limit-cap}
 use Rattle.packet.specs.Write.{inRange, writerLines, writerRefusal, fitted, writePacket, outAfter}
 use Rattle.packet.specs.declared.PacketWrite.{PacketWrite}
 use Rattle.packet.specs.declared.PacketWrite.the-variants.{Written, Unwritten}
+
+-- ---- 17, in words: RTC below 2^48; a secondary time other than 0 only with bit 7 set
+
+pub range-says : (f : Fields) → inRange f ≡ true → (f .rtc < 2 ^ 48) × (secondaryBit (f .flags) ≡ 0 → f .time ≡ 0)
+range-says f t =
+    let o = and-true (ltb (f .rtc) (2 ^ 48)) (eqb (secondaryBit (f .flags)) 1 || eqb (f .time) 0) t in (
+      ltb-true (f .rtc) (2 ^ 48) (o .0),
+      λ none. ⊎-elim (λ h. absurd (omega (arith, eqb-true (secondaryBit (f .flags)) 1 h))) (eqb-true (f .time) 0)
+          (or-true (eqb (secondaryBit (f .flags)) 1) (eqb (f .time) 0) (o .1)),
+    )
+
+pub range-made : (f : Fields) → f .rtc < 2 ^ 48 → (secondaryBit (f .flags) ≡ 0 → f .time ≡ 0) → inRange f ≡ true
+range-made f small none = rw (lt-ltb (f .rtc) (2 ^ 48) small) (go (decLe 1 (secondaryBit (f .flags))))
+  where
+    either : (a : Bool) → (a || true) ≡ true
+    either true = refl
+    either false = refl
+
+    go : Dec (1 ≤ secondaryBit (f .flags)) → (eqb (secondaryBit (f .flags)) 1 || eqb (f .time) 0) ≡ true
+    go (yes h) = rw (eq-eqb (secondaryBit (f .flags)) 1 (omega arith))
+    go (no h) = rw (eq-eqb (f .time) 0 (none (omega arith))) (either (eqb (secondaryBit (f .flags)) 1))
 
 -- ---- 15 and 16; x is what the body's check said
 

@@ -1,6 +1,7 @@
 -- Demand 1 holds.
 use mathlib.Core.Path.{_≡_, refl, sym, ap, _∙_}
 use mathlib.Core.List.{List}
+use mathlib.Core.Bool.{Bool, true, false}
 use mathlib.Core.Logic.{inl, inr, ⊎-elim, _≢_}
 use Prim.Native.Nat.{ℕ, _+_, _≤_}
 use native.Mathlib.Omega.{arith}
@@ -10,8 +11,8 @@ use Rattle.terms.specs.declared.Refusal.{Refusal}
 use Rattle.builder.specs.Build.{bufAfter, stepTold}
 use Rattle.builder.specs.declared.Step.{Step}
 use Rattle.builder.specs.declared.Step.the-variants.{Done, Denied}
-use Rattle.packet.specs.Read.{window, readPacket, packetTold}
-use Rattle.terms.specs.Refusals.{noRefusal}
+use Rattle.packet.specs.Read.{inside, window, readPacket, packetTold}
+use Rattle.terms.specs.Refusals.{refused, noRefusal}
 use Rattle.packet.specs.Messages.{listPacket, listAfter, starts, lengths, listTold, messageTold}
 use Rattle.packet.specs.Write.{outAfter, writeTold}
 use Rattle.packet.specs.declared.Packet.{Packet}
@@ -22,7 +23,10 @@ use Rattle.packet.specs.declared.PacketWrite.the-variants.{Written, Unwritten}
 use Rattle.packet.proofs.Window.{entries-kept, count-fits, length-after, read-window, list-window, message-window, entries-window}
 use Rattle.packet.proofs.Own.{own-read, own-list, own-message, own-entries}
 use Rattle.recording.specs.Reading.{Reading, reading, readRecording}
-use Rattle.recording.specs.Handed.{HandsOut}
+use Rattle.recording.specs.declared.Recording.{Recording}
+use Rattle.recording.specs.Handed.{Within, HandsOut}
+use Rattle.packet.proofs.Answers.{inside-says, inside-made}
+use Rattle.recording.proofs.Readings.{from-end, reading-inside, reading-outside}
 use Rattle.recording.proofs.HandedOut.{hands-out, hands-out-once, reading-window, recording-window}
 use Rattle.promises.specs.Refusals.{readerRefusals}
 use Rattle.promises.specs.Endings.{FromTable, readTold}
@@ -67,6 +71,24 @@ own-behind a b start end end′ p is reaches in-b same =
 recording-numbered : (buf : List ℕ) (at end : ℕ) (r : Refusal) → packetTold (readPacket buf at end) .refusal ≡ r → r .number ≢ 0 → FromTable readerRefusals r
 recording-numbered buf at end r q some = rw q at (read-numbered buf at end (rw q some))
 
+recording-empty : (buf : List ℕ) (start : ℕ) → start ≤ length buf → readRecording buf start start ≡ record { accepted = 0; reached = start; refusal = noRefusal }
+unfolding readRecording
+recording-empty buf start within =
+    rw (reading-inside buf start start (inside-made buf start start (omega arith) within), from-end buf start start (omega arith))
+
+recording-outside : (buf : List ℕ) (start end : ℕ) → ¬ Within buf start end
+    → readRecording buf start end ≡ record { accepted = 0; reached = start; refusal = refused 1 start }
+unfolding readRecording
+recording-outside buf start end other = go (inside buf start end) refl
+  where
+    -- what an answer says of a reading
+    said : Reading → Recording
+    said r = record { accepted = length (r .packets); reached = r .reached; refusal = r .refusal }
+
+    go : (t : Bool) → inside buf start end ≡ t → said (reading buf start end) ≡ record { accepted = 0; reached = start; refusal = refused 1 start }
+    go true i = absurd (other (inside-says buf start end i))
+    go false o = rw (reading-outside buf start end o)
+
 -- ---- lent memory
 
 both-kept : (buf : List ℕ) (start end : ℕ) (starts₀ lengths₀ : List ℕ)
@@ -104,7 +126,10 @@ demand-1 =
       list-ends = list-ends;
       message-ends = message-ends;
       recording-ends =
-          λ buf start end. ⊎-elim inl (λ h. inr (h .0, recording-numbered buf _ end _ (h .0) (h .1))) (hands-out buf start end .ends);
+          λ buf start end within.
+          ⊎-elim (λ h. inl (h .1, h .2)) (λ h. inr (h .2 within, h .0, recording-numbered buf _ end _ (h .0) (h .1))) (hands-out buf start end .ends);
+      recording-empty = recording-empty;
+      recording-outside = recording-outside;
       nothing-outside = outside;
       nothing-outside-recording = recording-window;
       nothing-outside-handed = handed-alike;

@@ -10,6 +10,7 @@ pub mod Keeping
 pub mod WriterKeeping
 pub mod Building
 pub mod Words
+pub mod Answering
 pub mod Reported
 pub mod Spoilt
 pub mod Alterations

@@ -22,6 +22,8 @@ pub words : Words
 unfolding num bytesOf sumUnits blockBytes blocksBytes stampLength
 words =
     record {
+      pick-true = λ a b. refl;
+      pick-false = λ a b. refl;
       byte-is = λ bs i. refl;
       bytes-are = λ bs. (λ raw i. omega (arith, byte-below bs i raw), bytes-known bs);
       part-long = length-part;

@@ -1,16 +1,15 @@
 -- Contents are written exactly when every rule of the writer's holds, and refused by the first that does not: each of its tests says what document 01 says.
 use mathlib.Core.Path.{_≡_, refl, sym, subst, _∙_}
 use mathlib.Core.List.{List, [], _∷_, _++_}
-use mathlib.Core.Bool.{Bool, true, false, not, _||_, false≢true}
+use mathlib.Core.Bool.{Bool, true, false, not, false≢true}
 use mathlib.Core.Logic.{_↔_, _⊎_, inl, inr, ⊎-elim, _≢_}
-use Prim.Native.Nat.{ℕ, _+_, _^_, _≤_, _<_}
+use Prim.Native.Nat.{ℕ, _+_, _≤_}
 use native.Mathlib.Omega.{arith}
 use native.Mathlib.Decide.{decLe}
 use lib.ListN.{length}
 use lib.Dec.{T, eqb, ltb, leb}
-use borrow.Author.Tests.{eqb-true, eqb-false, eq-eqb, ltb-true, ltb-false, lt-ltb, leb-true, le-leb, lt-leb}
+use borrow.Author.Tests.{eqb-true, eqb-false, ltb-true, ltb-false, leb-true, le-leb, lt-leb}
 use Rattle.units.specs.Choice.{pick}
-use Rattle.units.proofs.Choices.{and-true, or-true}
 use Rattle.terms.specs.Refusals.{refused, needing, placed}
 use Rattle.terms.specs.Times.{ruleOf}
 use Rattle.terms.specs.declared.Refusal.{Refusal}
@@ -28,6 +27,7 @@ use Rattle.packet.specs.Write.{inRange, writerLines, writerRefusal, fitted, wri
 use Rattle.packet.specs.declared.PacketWrite.{PacketWrite}
 use Rattle.packet.specs.declared.PacketWrite.the-variants.{Written, Unwritten}
 use Rattle.packet.proofs.Told.{Says15, given-15}
+use Rattle.packet.proofs.Writes.{range-says, range-made}
 use Rattle.promises.specs.Refusals.{OneOf, writerRefusals}
 use Rattle.promises.specs.Contents.{Typed}
 use Rattle.promises.specs.Endings.{Ends, writtenTold}
@@ -76,25 +76,6 @@ unfolding writerLines valueLines
 numbers-are c room = refl
 
 -- ---- each line says its rule
-
-range-says : (f : Fields) → inRange f ≡ true → (f .rtc < 2 ^ 48) × (secondaryBit (f .flags) ≡ 0 → f .time ≡ 0)
-range-says f t =
-    let o = and-true (ltb (f .rtc) (2 ^ 48)) (eqb (secondaryBit (f .flags)) 1 || eqb (f .time) 0) t in (
-      ltb-true (f .rtc) (2 ^ 48) (o .0),
-      λ none. ⊎-elim (λ h. absurd (omega (arith, eqb-true (secondaryBit (f .flags)) 1 h))) (eqb-true (f .time) 0)
-          (or-true (eqb (secondaryBit (f .flags)) 1) (eqb (f .time) 0) (o .1)),
-    )
-
-range-made : (f : Fields) → f .rtc < 2 ^ 48 → (secondaryBit (f .flags) ≡ 0 → f .time ≡ 0) → inRange f ≡ true
-range-made f small none = rw (lt-ltb (f .rtc) (2 ^ 48) small) (go (decLe 1 (secondaryBit (f .flags))))
-  where
-    either : (a : Bool) → (a || true) ≡ true
-    either true = refl
-    either false = refl
-
-    go : Dec (1 ≤ secondaryBit (f .flags)) → (eqb (secondaryBit (f .flags)) 1 || eqb (f .time) 0) ≡ true
-    go (yes h) = rw (eq-eqb (secondaryBit (f .flags)) 1 (omega arith))
-    go (no h) = rw (eq-eqb (f .time) 0 (none (omega arith))) (either (eqb (secondaryBit (f .flags)) 1))
 
 module _ (c : Contents) (room : ℕ) where
   abbrev f : Fields
@@ -234,7 +215,16 @@ module _ (c : Contents) where
   long-told (short long) e = absurd (omega (arith, e))
   long-told (fits long) e = (long, refl)
 
+  written : {x : PacketWrite} → Outcome c x → writeTold x .refusal .number ≡ 0 → x ≡ Written (writeTold x .length)
+  written (ruled n o) e = absurd (false≢true (one-among 0 ruledNumbers (rw e at o)))
+  written (faulty r number room) e = absurd (omega (arith, number, e))
+  written (short long) e = absurd (omega (arith, e))
+  written (fits long) e = refl
+
   module _ (room : ℕ) where
+    pub written-is : writeTold (writePacket c room) .refusal .number ≡ 0 → writePacket c room ≡ Written (writeTold (writePacket c room) .length)
+    written-is = written (outcome c room)
+
     pub write-ends : Ends writerRefusals writtenTold 0 (writeTold (writePacket c room))
     write-ends = ends (outcome c room)
 

@@ -2,27 +2,27 @@
 use mathlib.Core.Path.{_≡_}
 use mathlib.Core.List.{List, [], _∷_, _++_}
 use mathlib.Core.Logic.{_⊎_, _≢_}
-use Prim.Native.Nat.{ℕ, suc, _+_, _*_, _/_, _%_, _≤_, _<_}
+use Prim.Native.Nat.{ℕ, suc, _+_, _*_, _≤_, _<_}
 use lib.ListN.{length}
 use Rattle.units.specs.Units.{Bytes}
-use Rattle.frame.specs.Sums.{sumWidth}
 use Rattle.frame.specs.Header.{byte}
 use Rattle.frame.specs.Contents.{Contents}
 use Rattle.packet_bytes.specs.Bytes.{packetBytes}
 use Rattle.promises.specs.Contents.{Accepts, AllAccepted, written}
+use Rattle.promises.specs.Numbers.{bit7, width}
 
 abbrev pub flagsOf : Contents → ℕ
 flagsOf c = c .fields .flags
 
 -- the length of its secondary header, where its body begins, and its data sum's width in bytes, by the flags (document 01, "Primary header")
 abbrev pub secondarySize : Contents → ℕ
-secondarySize c = 12 * (flagsOf c / 128 % 2)
+secondarySize c = 12 * bit7 (flagsOf c)
 
 abbrev pub bodyPlace : Contents → ℕ
 bodyPlace c = 24 + secondarySize c
 
 abbrev pub sumSize : Contents → ℕ
-sumSize c = sumWidth (flagsOf c % 4)
+sumSize c = width (flagsOf c)
 
 -- the units that the demand names in the packet of c: the refusal that each is to give, its place and its width
 pub data UnitOf (c : Contents) : ℕ → ℕ → ℕ → Type 0 where

@@ -15,7 +15,8 @@ use Rattle.promises.specs.Numbers.{bit6, format, InFormat}
 use Rattle.promises.specs.Words.{pad}
 use Rattle.promises.specs.Calls.{Open, Add, Close}
 
--- what opening takes: 0x30 with a time rule, 0x50 with one or none. Rules: 1 the counter, 2 Chapter 4, 3 IEEE 1588, 4 extended counter; 0 none
+-- what opening takes: 0x30 with a time rule, 0x50 with one or none. Rules: 1 the counter, 2 Chapter 4, 3 IEEE 1588, 4 extended counter; 0 none, 5 the
+-- reserved time format
 abbrev pub Opens : ℕ → ℕ → Type 0
 Opens kind rule = ((kind ≡ 0x30) × (1 ≤ rule) × (rule ≤ 4)) ⊎ ((kind ≡ 0x50) × (rule ≤ 4))
 

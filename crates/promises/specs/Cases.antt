@@ -1,4 +1,4 @@
--- The starred cases of document 01, "Both sides of the line", over a single list.
+-- The starred cases of document 01, "Both sides of the line", over a single list; and below them what the examples are about (proofs/Examples.antt).
 use mathlib.Core.Path.{_≡_}
 use mathlib.Core.List.{List, [], _∷_, _++_}
 use Prim.Native.Nat.{ℕ, _+_, _*_, _^_}
@@ -8,12 +8,12 @@ use Rattle.terms.specs.Refusals.{refused, noRefusal}
 use Rattle.body.specs.Blocks.{blockBytes}
 use Rattle.builder.specs.Build.{formOf, freshDraft, openStep, openWord, addStep, entryOf, bufAfter, stepTold}
 use Rattle.builder.specs.declared.Step.{Step}
-use Rattle.frame.specs.Header.{secondaryIn}
-use Rattle.packet.specs.Read.{partAt, readPacket, noPacket, PacketTold, packetTold}
+use Rattle.packet.specs.Read.{partAt, readPacket, PacketTold, packetTold}
 use Rattle.frame.specs.Contents.{Contents}
 use Rattle.packet_bytes.specs.Bytes.{packetBytes}
 use Rattle.packet.specs.Write.{writePacket, WriteTold, writeTold}
 use Rattle.promises.specs.Contents.{written}
+use Rattle.promises.specs.Endings.{zeroPacket}
 
 -- a case: a window, and what the reader tells; contents, an output of `room` bytes, and what the writer tells; or bytes and the sum in
 -- their secondary header
@@ -25,7 +25,7 @@ pub data Case : Type 0 where
 abbrev pub Right : Case → Type 0
 Right (reads buf start end t) = packetTold (readPacket buf start end) ≡ t
 Right (writes c room t) = writeTold (writePacket c room) ≡ t
-Right (secondarySum bytes sum) = field (secondaryIn bytes) 10 2 ≡ sum
+Right (secondarySum bytes sum) = field bytes 34 2 ≡ sum
 
 abbrev pub AllRight : List Case → Type 0
 AllRight [] = Unit {0}
@@ -72,7 +72,7 @@ accepts flags time p «header_sum» secondary filler width «data_sum» =
 
 -- a refusal, at the packet's start
 abbrev refuses : ℕ → PacketTold
-refuses number = record { refusal = refused number 3; packet = noPacket }
+refuses number = record { refusal = refused number 3; packet = zeroPacket }
 
 -- flags of a secondary header with an IEEE 1588 time and no data sum; a time of 1 second and some nanoseconds
 abbrev pub flags1588 : ℕ

@@ -1,22 +1,21 @@
 -- Demand 1, sentence by sentence; proved in proofs/Demand1.antt (demand-1).
 use mathlib.Core.Path.{_≡_}
 use mathlib.Core.List.{List}
-use mathlib.Core.Bool.{true}
 use mathlib.Core.Logic.{_⊎_, _≢_}
-use Prim.Native.Nat.{ℕ, _+_, _≤_}
+use Prim.Native.Nat.{ℕ, _+_, _≤_, _<_}
 use lib.ListN.{length, drop}
 use Rattle.units.specs.Units.{Bytes, part}
 use Rattle.builder.specs.Build.{bufAfter, stepTold}
 use Rattle.builder.specs.declared.Step.{Step}
-use Rattle.packet.specs.Read.{inside, window, readPacket, packetTold}
-use Rattle.terms.specs.Refusals.{noRefusal}
+use Rattle.packet.specs.Read.{window, readPacket, packetTold}
+use Rattle.terms.specs.Refusals.{refused, noRefusal}
 use Rattle.packet.specs.Messages.{listPacket, listAfter, starts, lengths, messagePacket, listTold, entries, messageTold}
 use Rattle.packet.specs.Write.{outAfter, writeTold}
 use Rattle.packet.specs.declared.Packet.{Packet}
 use Rattle.packet.specs.declared.PacketList.{PacketList}
 use Rattle.packet.specs.declared.PacketWrite.{PacketWrite}
 use Rattle.recording.specs.Reading.{readRecording}
-use Rattle.recording.specs.Handed.{HandsOut}
+use Rattle.recording.specs.Handed.{Within, HandsOut}
 use Rattle.promises.specs.Refusals.{readerRefusals, listerRefusals, messageRefusals}
 use Rattle.promises.specs.Bodies.{BodyAtFault}
 use Rattle.promises.specs.Endings.{FromTable, zeroPacket, zeroMessage, Ends, readTold, listedTold, givenTold, Placed}
@@ -38,7 +37,7 @@ pub record ListKept (r : PacketList) (values : ℕ → ℕ) (old : List ℕ) : T
 
 pub record Demand1 : Type 0 where
   -- "A read names a start and a filled end in a buffer. For every input it ends with a packet or one refusal from the table, number
-  -- and place fixed." Fixed: no two outcomes satisfy what a call promises (proofs/Once.antt); which number: Document01.read-first.
+  -- and place fixed." Which number: Document01.read-first; where: read-placed, placed-once.
 
   -- the reader: a packet, or one of the reader's refusals, and its place
   pub read-ends : (buf : List ℕ) (start end : ℕ) → Ends readerRefusals readTold zeroPacket (packetTold (readPacket buf start end))
@@ -50,11 +49,17 @@ pub record Demand1 : Type 0 where
   pub list-ends : (buf : List ℕ) (start end len₁ len₂ : ℕ) → Ends listerRefusals listedTold 0 (listTold (listPacket buf start end len₁ len₂))
   -- one message, of any number: it, or one of the reader's or 17
   pub message-ends : (buf : List ℕ) (start end number : ℕ) → Ends messageRefusals givenTold zeroMessage (messageTold (messagePacket buf start end number))
-  -- a recording: at the exact end of a window in its buffer, or at a place where the reader gives that refusal
-  pub recording-ends : (buf : List ℕ) (start end : ℕ)
-      → ((inside buf start end ≡ true) × (readRecording buf start end .reached ≡ end) × (readRecording buf start end .refusal ≡ noRefusal))
-      ⊎ ((packetTold (readPacket buf (readRecording buf start end .reached) end) .refusal ≡ readRecording buf start end .refusal)
+  -- a recording: at the exact end of a window in its buffer, or before it, at a place where the reader gives that refusal
+  pub recording-ends : (buf : List ℕ) (start end : ℕ) → Within buf start end
+      → ((readRecording buf start end .reached ≡ end) × (readRecording buf start end .refusal ≡ noRefusal))
+      ⊎ ((readRecording buf start end .reached < end)
+      × (packetTold (readPacket buf (readRecording buf start end .reached) end) .refusal ≡ readRecording buf start end .refusal)
       × FromTable readerRefusals (readRecording buf start end .refusal))
+  -- an empty window: none, 0; one that is outside its buffer: none, 1 at the start
+  pub recording-empty : (buf : List ℕ) (start : ℕ) → start ≤ length buf
+      → readRecording buf start start ≡ record { accepted = 0; reached = start; refusal = noRefusal }
+  pub recording-outside : (buf : List ℕ) (start end : ℕ) → ¬ Within buf start end
+      → readRecording buf start end ≡ record { accepted = 0; reached = start; refusal = refused 1 start }
   -- "Nothing outside that window changes the answer."
 
   -- two buffers that both reach to the end, with the same bytes from start to it

@@ -41,7 +41,7 @@ time w = field w 24 4 + 2 ^ 32 * field w 28 4
 
 -- ---- the rules
 
--- rule n of the table, of a packet at the start of a window; w: the window's bytes
+-- rule n of the table, of a packet at the start of a window; w is given as the window's bytes, window buf start end
 pub data Rule (buf : List ℕ) (start end : ℕ) (w : List ℕ) : ℕ → Type 0 where
   -- 1: a start and a filled end, with start ≤ end ≤ buffer length
   within : start ≤ end → end ≤ length buf → Rule buf start end w 1

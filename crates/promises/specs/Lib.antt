@@ -7,6 +7,7 @@ pub mod Keeps
 pub mod WriterKeeps
 pub mod Endings
 pub mod Words
+pub mod Answering
 pub mod Building
 pub mod Reports
 pub mod Altered

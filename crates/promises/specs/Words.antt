@@ -1,11 +1,13 @@
--- What the words mean that the promises are written in: of each definition that they share with the contracts of the code, a sentence that says it without
--- looking at it. Proved in proofs/Words.antt (words).
+-- What the words mean that the promises are written in: of each definition that they share with the contracts of the code, and that no other promise is
+-- about, a sentence that says it without looking at it. Proved in proofs/Words.antt (words).
 use mathlib.Core.Path.{_≡_}
 use mathlib.Core.List.{List, [], _∷_, _++_}
+use mathlib.Core.Bool.{true, false}
 use mathlib.Core.Logic.{_↔_}
 use Prim.Native.Nat.{ℕ, _+_, _-_, _*_, _/_, _%_, _≤_, _<_}
 use lib.ListN.{length, take, drop, getD, replicate}
 use Rattle.units.specs.Units.{Bytes, part, splice, field, bytesOf, sumUnits}
+use Rattle.units.specs.Choice.{pick}
 use Rattle.terms.specs.Refusals.{refused, noRefusal, needing}
 use Rattle.terms.specs.declared.Refusal.{Refusal}
 use Rattle.body.specs.Blocks.{Entry, blockBytes, blocksBytes, messageOn}
@@ -35,7 +37,11 @@ use Rattle.promises.specs.Endings.{zeroPacket, zeroMessage}
 abbrev pub pad : ℕ → List ℕ
 pad n = replicate (n % 2) 0
 
-pub record Words : Type 0 where
+pub record Words : Type 1 where
+  -- ---- a choice by a test: the first where it is true, else the second
+
+  pub pick-true : {A : Type 0} (a b : A) → pick true a b ≡ a
+  pub pick-false : {A : Type 0} (a b : A) → pick false a b ≡ b
   -- ---- bytes and places
 
   -- the byte at a place, and bytes

@@ -9,7 +9,7 @@ use Rattle.promises.specs.Refusals.{OneOf, writerRefusals}
 use Rattle.promises.specs.Numbers.{bit7, format, VersionKept, TypeKept, FlagsKept, ChannelKept, LengthsKept, InFormat}
 use Rattle.promises.specs.Bodies.{MessagesKept}
 
--- p is the length P of the packet of c, whose body is D; it is the one p for which rule 9 is kept, if there is any
+-- p is the length P of the packet of c, whose body has D bytes: the one p for which rule 9 is kept, if there is any
 abbrev pub LengthOf : Contents → ℕ → Type 0
 LengthOf c p = LengthsKept (c .fields .kind) (c .fields .flags) p (length (c .body))
 

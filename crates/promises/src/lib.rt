@@ -1,6 +1,7 @@
-// The three demands are theorems: specs/Demand1.antt, Demand2.antt and Demand3.antt, on the definitions that the contracts of the
-// public calls cite. The functions here tie them to the code: each makes one public call, and promises of it what specs/Calls.antt says,
-// and of its arguments what the theorems ask for: `Bytes` of what is lent, `Typed` of contents. So every theorem applies to every run.
+// The three demands and document 01's other promises are theorems: specs/Demand1.antt to Demand3.antt, Document01.antt, Answering.antt and
+// Words.antt, on the definitions that the contracts of the public calls cite. The functions here tie them to the code: each makes one public
+// call, and promises of it what specs/Calls.antt says, and of its arguments what the theorems ask for: `Bytes` of what is lent for reading,
+// `Typed` of contents. So every theorem applies to every run.
 ghost use Prim.Native.Nat.{_^_, _<_};
 ghost use Rattle.units.specs.Units.{Bytes};
 ghost use Rattle.frame.specs.Contents.{contents};

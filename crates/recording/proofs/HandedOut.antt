@@ -21,11 +21,11 @@ use Rattle.packet.specs.declared.Packet.{Packet}
 use Rattle.packet.specs.declared.PacketRead.{PacketRead}
 use Rattle.packet.specs.declared.PacketRead.the-variants.{Accepted, Refused}
 use Rattle.packet.proofs.Own.{accepted-fits}
-use Rattle.packet.proofs.Answers.{inside-says, inside-same, read-refused}
+use Rattle.packet.proofs.Answers.{inside-says, inside-made, inside-same, read-refused}
 use Rattle.packet.proofs.Told.{read-told, refusal-numbered}
 use Rattle.packet.proofs.Window.{read-window}
 use Rattle.recording.specs.Reading.{Reading, stopped, ahead, onward, readFrom, reading, readRecording}
-use Rattle.recording.specs.Handed.{lengthOf, HandsOut}
+use Rattle.recording.specs.Handed.{lengthOf, Within, HandsOut}
 use Rattle.recording.specs.declared.Recording.{Recording}
 use Rattle.recording.proofs.Readings.{from, from-end, from-on, from-stops, reading-inside, reading-outside}
 
@@ -133,8 +133,11 @@ module _ (buf : List ℕ) (s e : ℕ) where
         number = refl;
         each = h .each;
         covers = h .covers;
-        ends = ⊎-elim (λ f. inl (i, f .0, f .1)) (λ f. inr (f .0, f .1, λ t. f .2)) (h .ends);
+        ends = ⊎-elim (λ f. inl (inside-says buf s e i, f .0, f .1)) (λ f. inr (f .0, f .1, λ t. f .2)) (h .ends);
       }
+
+  not-within : inside buf s e ≡ false → ¬ Within buf s e
+  not-within o w = true≢false (sym (inside-made buf s e (w .0) (w .1)) ∙ o)
 
   hands-outside : inside buf s e ≡ false → HandsOut buf s e (answer (stopped s (refused 1 s))) []
   unfolding lengthOf
@@ -147,7 +150,7 @@ module _ (buf : List ℕ) (s e : ℕ) where
             inr (
               ap (λ (x : PacketRead). packetTold x .refusal) (read-outside o),
               (λ (z : _≡_ {A = ℕ} 1 0). omega arith),
-              λ t. absurd (true≢false (sym t ∙ o)),
+              λ t. absurd (not-within o t),
             );
       }
 
@@ -165,7 +168,7 @@ module _ (buf : List ℕ) (s e : ℕ) where
   once-outside o [] r h =
       let here : r .reached ≡ s = h .covers ∙ add-zero s in
       ⊎-elim
-      (λ f. absurd (true≢false (sym (f .0) ∙ o)))
+      (λ f. absurd (not-within o (f .0)))
       (λ f.
       let said : r .refusal ≡ refused 1 s = sym (f .0) ∙ rw (here, read-outside o) in
       λ i. record { packets = []; reached = here i; refusal = said i })
@@ -178,7 +181,7 @@ module _ (buf : List ℕ) (s e : ℕ) where
   once-inside : inside buf s e ≡ true → (ps : List Packet) (r : Recording) → HandsOut buf s e r ps → readingOf ps r ≡ from buf s e
   once-inside i ps r h =
       handed-once buf e ps s (r .reached) (r .refusal)
-      (record { each = h .each; covers = h .covers; ends = ⊎-elim (λ f. inl (f .1, f .2)) (λ f. inr (f .0, f .1, f .2 i)) (h .ends) })
+      (record { each = h .each; covers = h .covers; ends = ⊎-elim (λ f. inl (f .1, f .2)) (λ f. inr (f .0, f .1, f .2 (inside-says buf s e i))) (h .ends) })
 
   once-read : (ps : List Packet) (r : Recording) → HandsOut buf s e r ps → readingOf ps r ≡ reading buf s e
   once-read ps r h = go (inside buf s e) refl
