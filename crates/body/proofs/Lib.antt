@@ -7,4 +7,3 @@ pub mod Bounds
 pub mod Steps
 pub mod Counts
 pub mod ChannelWords
-pub mod Faults

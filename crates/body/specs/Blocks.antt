@@ -36,13 +36,9 @@ pub record Fits (form : Form) (rule : TimeRule) (e : Entry) : Type 0 where
   pub time-fits : e .time < 256 ^ stampLength form
   pub time-ok : timeOk rule (e .time) ≡ true
 
--- each of some blocks
-abbrev pub Each : (Entry → Type 0) → List Entry → Type 0
-Each Right [] = Unit {0}
-Each Right (e ∷ es) = Right e × Each Right es
-
 abbrev pub AllFit : Form → TimeRule → List Entry → Type 0
-AllFit form rule es = Each (Fits form rule) es
+AllFit form rule [] = Unit {0}
+AllFit form rule (e ∷ es) = Fits form rule e × AllFit form rule es
 
 -- blocks, one behind the other
 unfoldable pub blocksBytes : Form → List Entry → List ℕ

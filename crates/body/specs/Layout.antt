@@ -1,10 +1,8 @@
 -- The layout of an opened body in document 01's words ("Opened bodies"): the channel word, and how many blocks it asks for. No test of the
 -- reader's is cited: that the reader's tests say the same is proved in proofs/ChannelWords.antt.
 use mathlib.Core.Path.{_≡_}
-use mathlib.Core.List.{List}
 use mathlib.Core.Logic.{_⊎_}
 use Prim.Native.Nat.{ℕ, _/_, _%_, _^_, _≤_, _<_}
-use lib.ListN.{length}
 use Rattle.body.specs.declared.Form.{Form}
 use Rattle.body.specs.declared.Form.the-variants.{Stamped, Plain}
 
@@ -33,9 +31,3 @@ pub data ChannelWord (kind word : ℕ) : Form → Asked → Type 0 where
 abbrev pub AsMany : Asked → ℕ → Type 0
 AsMany (exactly count) n = n ≡ count
 AsMany toTheEnd n = 1 ≤ n
-
--- behind k blocks, with `rest` to come, one more is due: they are fewer than the channel word says; or, where they go to the end of the body,
--- there is none yet, or the body goes on
-abbrev pub Due : Asked → ℕ → List ℕ → Type 0
-Due (exactly count) k rest = k < count
-Due toTheEnd k rest = (k ≡ 0) ⊎ (1 ≤ length rest)

@@ -2,5 +2,4 @@ pub mod Walk
 pub mod Answers
 pub mod Blocks
 pub mod Layout
-pub mod Faults
 pub mod inner

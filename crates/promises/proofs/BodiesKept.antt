@@ -1,10 +1,11 @@
 -- The reader's tests of an opened body say what document 01 says of it, and a body is at fault where document 01 says.
-use mathlib.Core.Path.{_≡_, refl, sym, ap, _∙_}
+use mathlib.Core.Path.{_≡_, refl, sym, ap, _∙_, subst}
 use mathlib.Core.List.{List}
 use mathlib.Core.Bool.{Bool, true, false, false≢true}
-use mathlib.Core.Logic.{_≢_, _↔_}
-use Prim.Native.Nat.{ℕ, _^_, _<_}
+use mathlib.Core.Logic.{_≢_, _↔_, inl, inr, ⊎-elim}
+use Prim.Native.Nat.{ℕ, zero, suc, _/_, _%_, _^_, _≤_, _<_}
 use native.Mathlib.Omega.{arith}
+use native.Mathlib.Decide.{decLe}
 use lib.ListN.{length}
 use Rattle.units.specs.Units.{Bytes, field}
 use Rattle.terms.proofs.Times.{zero-ok}
@@ -13,17 +14,19 @@ use Rattle.terms.specs.declared.Refusal.{Refusal}
 use Rattle.body.specs.Walk.{opens, openBody, stampLength, lengthBy}
 use Rattle.body.specs.Answers.{checkBody}
 use Rattle.body.specs.Blocks.{Entry, Fits, entriesIn, BodyOf}
-use Rattle.body.specs.Layout.{Asked, exactly, toTheEnd, ChannelWord, many, single, segment, timed, untimed, AsMany}
+use Rattle.body.specs.Layout.{OpenedType, Asked, exactly, toTheEnd, ChannelWord, many, single, segment, timed, untimed, AsMany}
 use Rattle.body.specs.declared.Form.{Form}
 use Rattle.body.specs.declared.Form.the-variants.{Stamped, Plain}
 use Rattle.body.specs.declared.Checked.{Checked}
 use Rattle.body.specs.declared.Checked.the-variants.{Counted, Faulty}
-use Rattle.body.proofs.ChannelWords.{opens-exactly, countedBy, countBy, shapeOf, word-says, word-made}
+use Rattle.body.proofs.ChannelWords as Words
+use Rattle.body.proofs.ChannelWords.{countedBy, countBy, shapeOf, word-says, word-made}
 use Rattle.body.proofs.Exactly.{body-of-blocks, body-is-blocks}
-use Rattle.body.specs.Faults.{AtFault}
-use Rattle.body.proofs.Faults.{RightBy, fault-at, fault-once, each-other, fault-other}
+use Rattle.promises.specs.Faults.{AtFault}
+use Rattle.promises.proofs.Faults.{RightBy, fit-each, each-fit, fault-at, fault-once, each-other, fault-other}
 use Rattle.frame.specs.Rules.{messageRule}
-use Rattle.promises.specs.Bodies.{BlockKept, BodyKept, MessagesKept, BodyAtFault}
+use Rattle.promises.specs.Refusals.{OneOf}
+use Rattle.promises.specs.Bodies.{openedTypes, MessageWord, BlockKept, BodyKept, MessagesKept, BodyAtFault}
 use Rattle.promises.proofs.NumbersKept.{message-time-exactly}
 
 -- ---- blocks
@@ -64,9 +67,77 @@ block-made flags Plain e k =
     let t : e .time < 256 ^ 0 = omega (arith, z) in
     record { some = k .some; size = k .size; word = k .word; time-fits = t; time-ok = rw z (zero-ok (messageRule flags)) }
 
--- ---- how many blocks
+-- ---- the types that we open
 
--- as many as the shape counts, and at least one
+opened-is : (kind : ℕ) → OneOf kind openedTypes ↔ OpenedType kind
+opened-is kind = (⊎-elim inl (⊎-elim inr (λ none. absurd none)), ⊎-elim inl (λ e. inr (inl e)))
+
+pub opens-exactly : (kind : ℕ) → (opens kind ≡ true) ↔ OneOf kind openedTypes
+opens-exactly kind = (λ o. opened-is kind .1 (Words.opens-exactly kind .0 o), λ h. Words.opens-exactly kind .1 (opened-is kind .0 h))
+
+pub carries : (kind : ℕ) → ¬ OneOf kind openedTypes → opens kind ≡ false
+carries kind other = Words.carries kind (λ o. other (opened-is kind .1 o))
+
+-- ---- the channel word
+
+-- a right one, with as many blocks as it asks for
+record WordKept (kind word n : ℕ) (form : Form) : Type 0 where
+  some : 1 ≤ n
+  message : kind ≡ 0x30 → (form ≡ Stamped) × MessageWord word n
+  uart : kind ≡ 0x50 → (word % 2 ^ 31 ≡ 0) × (2 ^ 31 ≤ word → form ≡ Stamped) × (word < 2 ^ 31 → form ≡ Plain)
+
+word-kept : (kind word n : ℕ) {form : Form} {asked : Asked} → ChannelWord kind word form asked → AsMany asked n → WordKept kind word n form
+word-kept kind word n (many k small bits some) h =
+    record {
+      some = omega (arith, h);
+      message =
+          λ e. (refl, record { reserved = small; many = λ z. sym h; single = λ z. absurd (omega (arith, bits, z)); segment = λ z. absurd (omega (arith, bits, z)) });
+      uart = λ e. absurd (omega (arith, k, e));
+    }
+word-kept kind word n (single k small bits one) h =
+    record {
+      some = omega (arith, h);
+      message =
+          λ e. (refl, record { reserved = small; many = λ z. absurd (omega (arith, bits, z)); single = λ z. (one, h); segment = λ z. absurd (omega (arith, bits, z)) });
+      uart = λ e. absurd (omega (arith, k, e));
+    }
+word-kept kind word n (segment k small bits more) h =
+    record {
+      some = omega (arith, h);
+      message =
+          λ e. (refl, record { reserved = small; many = λ z. absurd (omega (arith, bits, z)); single = λ z. absurd (omega (arith, bits, z)); segment = λ z. (more, h) });
+      uart = λ e. absurd (omega (arith, k, e));
+    }
+word-kept kind word n (timed k bits high) h =
+    record { some = h; message = λ e. absurd (omega (arith, k, e)); uart = λ e. (bits, (λ z. refl), (λ z. absurd (omega arith))) }
+word-kept kind word n (untimed k bits low) h =
+    record { some = h; message = λ e. absurd (omega (arith, k, e)); uart = λ e. (bits, (λ z. absurd (omega arith)), (λ z. refl)) }
+
+-- and back
+abbrev WordMade : ℕ → ℕ → ℕ → Form → Type 0
+WordMade kind word n form = (asked : Asked) × ChannelWord kind word form asked × AsMany asked n
+
+message-made : (kind word n bits : ℕ) → word / 2 ^ 16 ≡ bits → kind ≡ 0x30 → 1 ≤ n → MessageWord word n → WordMade kind word n Stamped
+message-made kind word n zero b k some w =
+    let e = w .many b in
+    (exactly (word % 2 ^ 16), many k (w .reserved) b (omega (arith, e)), sym e)
+message-made kind word n (suc zero) b k some w = let o = w .single b in (exactly 1, single k (w .reserved) b (o .0), o .1)
+message-made kind word n (suc (suc f)) b k some w =
+    let two : 2 ≤ word / 2 ^ 16 = omega (arith, b) in
+    let o = w .segment two in
+    (exactly 1, segment k (w .reserved) two (o .0), o .1)
+
+word-made-of : (kind word n : ℕ) (form : Form) → OpenedType kind → WordKept kind word n form → WordMade kind word n form
+word-made-of kind word n form (inl k) w =
+    let m = w .message k in
+    subst (WordMade kind word n) (sym (m .0)) (message-made kind word n (word / 2 ^ 16) refl k (w .some) (m .1))
+word-made-of kind word n form (inr k) w = go (decLe (2 ^ 31) word)
+  where
+    go : Dec (2 ^ 31 ≤ word) → WordMade kind word n form
+    go (yes h) = subst (WordMade kind word n) (sym (w .uart k .1 h)) (toTheEnd, timed k (w .uart k .0) h, w .some)
+    go (no h) = let low : word < 2 ^ 31 = omega arith in subst (WordMade kind word n) (sym (w .uart k .2 low)) (toTheEnd, untimed k (w .uart k .0) low, w .some)
+
+-- as many as the shape counts
 many-says : (asked : Asked) (n : ℕ) → (countedBy asked ≡ true → n ≡ countBy asked) → 0 < n → AsMany asked n
 many-says (exactly count) n counted some = counted refl
 many-says toTheEnd n counted some = some
@@ -75,51 +146,46 @@ many-made : (asked : Asked) (n : ℕ) → AsMany asked n → countedBy asked ≡
 many-made (exactly count) n h c = h
 many-made toTheEnd n h c = absurd (false≢true c)
 
--- a right channel word asks for at least one
-some-asked : (kind word n : ℕ) {form : Form} {asked : Asked} → ChannelWord kind word form asked → AsMany asked n → 0 < n
-some-asked kind word n (many k small bits some) h = omega (arith, h)
-some-asked kind word n (single k small bits one) h = omega (arith, h)
-some-asked kind word n (segment k small bits more) h = omega (arith, h)
-some-asked kind word n (timed k bits high) h = h
-some-asked kind word n (untimed k bits low) h = h
-
 -- ---- the body
 
-body-says : (kind flags : ℕ) (bs : List ℕ) (es : List Entry) → BodyOf kind (messageRule flags) bs es → BodyKept kind flags bs es
+pub body-says : (kind flags : ℕ) (bs : List ℕ) (es : List Entry) → BodyOf kind (messageRule flags) bs es → BodyKept kind flags bs es
 body-says kind flags bs es b =
     let rule = messageRule flags in
     let (long, (asked, word, shape)) = word-says kind rule bs (b .shape) (b .opened) in
+    let w = word-kept kind (field bs 0 4) (length es) word (many-says asked (length es) (rw shape at (b .counted)) (b .some)) in
     record {
       form = b .shape .form;
-      asked = asked;
       long = long;
-      word = word;
-      number = many-says asked (length es) (rw shape at (b .counted)) (b .some);
+      some = w .some;
+      message = w .message;
+      uart = w .uart;
       is = b .is;
-      blocks = each-other (RightBy rule) (BlockKept flags) (block-says flags) (b .shape .form) es (b .fit);
+      blocks = each-other (RightBy rule) (BlockKept flags) (block-says flags) (b .shape .form) es (fit-each (b .shape .form) rule es (b .fit));
     }
 
-body-made : (kind flags : ℕ) (bs : List ℕ) (es : List Entry) → BodyKept kind flags bs es → BodyOf kind (messageRule flags) bs es
-body-made kind flags bs es k =
+body-made : (kind flags : ℕ) (bs : List ℕ) (es : List Entry) → OneOf kind openedTypes → BodyKept kind flags bs es → BodyOf kind (messageRule flags) bs es
+body-made kind flags bs es o k =
     let rule = messageRule flags in
+    let (asked, word, number) =
+    word-made-of kind (field bs 0 4) (length es) (k .form) (opened-is kind .0 o) (record { some = k .some; message = k .message; uart = k .uart }) in
     record {
-      shape = shapeOf (k .form) (k .asked) rule;
-      opened = word-made kind rule bs (k .form) (k .asked) (k .long) (k .word);
-      counted = many-made (k .asked) (length es) (k .number);
-      some = some-asked kind (field bs 0 4) (length es) (k .word) (k .number);
+      shape = shapeOf (k .form) asked rule;
+      opened = word-made kind rule bs (k .form) asked (k .long) word;
+      counted = many-made asked (length es) number;
+      some = k .some;
       is = k .is;
-      fit = each-other (BlockKept flags) (RightBy rule) (block-made flags) (k .form) es (k .blocks);
+      fit = each-fit (k .form) rule es (each-other (BlockKept flags) (RightBy rule) (block-made flags) (k .form) es (k .blocks));
     }
 
 -- the reader's layout of a body is document 01's
-pub body-kept : (kind flags : ℕ) (bs : List ℕ) (es : List Entry) → BodyOf kind (messageRule flags) bs es ↔ BodyKept kind flags bs es
-body-kept kind flags bs es = (body-says kind flags bs es, body-made kind flags bs es)
+pub body-kept : (kind flags : ℕ) (bs : List ℕ) (es : List Entry) → OneOf kind openedTypes → BodyOf kind (messageRule flags) bs es ↔ BodyKept kind flags bs es
+body-kept kind flags bs es o = (body-says kind flags bs es, body-made kind flags bs es o)
 
 -- of one form in both
-pub kept-form : (kind flags : ℕ) (bs : List ℕ) (es : List Entry) (b : BodyOf kind (messageRule flags) bs es)
-    → body-kept kind flags bs es .0 b .form ≡ b .shape .form
+pub kept-form : (kind flags : ℕ) (bs : List ℕ) (es : List Entry) (o : OneOf kind openedTypes) (b : BodyOf kind (messageRule flags) bs es)
+    → body-kept kind flags bs es o .0 b .form ≡ b .shape .form
 unfolding body-kept body-says
-kept-form kind flags bs es b = refl
+kept-form kind flags bs es o b = refl
 
 -- ---- 15, of a body's check
 
@@ -143,8 +209,9 @@ module _ (kind flags : ℕ) (bs : List ℕ) where
     where
       go : (o : Bool) → opens kind ≡ o → (n : ℕ) × (checkBody kind (messageRule flags) bs ≡ Counted n)
       go true o =
-          let (es, k) = kept (opens-exactly kind .0 o) in
-          (length es, body-of-blocks kind (messageRule flags) bs es (body-made kind flags bs es k) .0)
+          let opened = opens-exactly kind .0 o in
+          let (es, k) = kept opened in
+          (length es, body-of-blocks kind (messageRule flags) bs es (body-made kind flags bs es opened k) .0)
       go false o = (0, carried-counted kind (messageRule flags) bs o)
 
   pub messages-pass : MessagesKept kind flags bs → bodyPasses (checkBody kind (messageRule flags) bs) ≡ true
@@ -158,11 +225,11 @@ module _ (kind flags : ℕ) (bs : List ℕ) where
       (es, body-says kind flags bs es (body-is-blocks kind rule bs n raw (opens-exactly kind .1 o) is .1))
 
   -- the blocks of one list, and of no other
-  pub blocks-once : (es ds : List Entry) → BodyKept kind flags bs es → BodyKept kind flags bs ds → es ≡ ds
-  blocks-once es ds k l =
+  pub blocks-once : (es ds : List Entry) → OneOf kind openedTypes → BodyKept kind flags bs es → BodyKept kind flags bs ds → es ≡ ds
+  blocks-once es ds o k l =
       let rule = messageRule flags in
-      let a = body-of-blocks kind rule bs es (body-made kind flags bs es k) in
-      let b = body-of-blocks kind rule bs ds (body-made kind flags bs ds l) in
+      let a = body-of-blocks kind rule bs es (body-made kind flags bs es o k) in
+      let b = body-of-blocks kind rule bs ds (body-made kind flags bs ds o l) in
       let n : length es ≡ length ds = cc (sym (a .0) ∙ b .0) in
       sym (a .1) ∙ ap (entriesIn kind rule bs) n ∙ b .1
 

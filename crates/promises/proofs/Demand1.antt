@@ -24,10 +24,10 @@ use Rattle.packet.proofs.Window.{entries-kept, count-fits, length-after, read-w
 use Rattle.packet.proofs.Own.{own-read, own-list, own-message, own-entries}
 use Rattle.recording.specs.Reading.{Reading, reading, readRecording}
 use Rattle.recording.specs.declared.Recording.{Recording}
-use Rattle.recording.specs.Handed.{Within, HandsOut}
+use Rattle.promises.specs.Handed.{Within, HandsOut}
 use Rattle.packet.proofs.Answers.{inside-says, inside-made}
 use Rattle.recording.proofs.Readings.{from-end, reading-inside, reading-outside}
-use Rattle.recording.proofs.HandedOut.{hands-out, hands-out-once, reading-window, recording-window}
+use Rattle.promises.proofs.HandedOut.{hands-out, hands-out-once, reading-window, recording-window}
 use Rattle.promises.specs.Refusals.{readerRefusals}
 use Rattle.promises.specs.Endings.{FromTable, readTold}
 use Rattle.promises.specs.Demand1.{Alike, ListKept, Demand1}

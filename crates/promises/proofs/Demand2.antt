@@ -27,8 +27,7 @@ use Rattle.promises.proofs.Ends.{accepted-is}
 use Rattle.promises.proofs.Writer.{Writable, written-says, writable-written, writable-accepts, accepts-writable, length-of}
 use Rattle.promises.proofs.Written.{read-written}
 use Rattle.promises.proofs.Again.{read-again}
-use Rattle.body.proofs.ChannelWords.{opens-exactly, carries}
-use Rattle.promises.proofs.BodiesKept.{body-kept, kept-form, blocks-once}
+use Rattle.promises.proofs.BodiesKept.{opens-exactly, carries, body-kept, kept-form, blocks-once}
 use Rattle.promises.proofs.Keeping.{accepted-exactly}
 use Rattle.promises.proofs.Reported.{messages-there, carried-none}
 
@@ -135,8 +134,8 @@ demand-2 =
           let w = window buf start end in
           let o = opens-exactly (kindIn w) .1 kind in
           let (es, b, reports) = messages-there buf start end p raw (accepted-is buf start end p is) o in
-          let same = sym (kept-form (kindIn w) (flagsIn w) (bodyIn w) es b) in
-          (es, body-kept (kindIn w) (flagsIn w) (bodyIn w) es .0 b, subst (λ (form : Form). Reports buf start end es form) same reports);
+          let same = sym (kept-form (kindIn w) (flagsIn w) (bodyIn w) es kind b) in
+          (es, body-kept (kindIn w) (flagsIn w) (bodyIn w) es kind .0 b, subst (λ (form : Form). Reports buf start end es form) same reports);
       messages-once = blocks-once;
       carried-none =
           λ buf start end p is other. carried-none buf start end p (accepted-is buf start end p is) (carries (kindIn (window buf start end)) other);

@@ -12,7 +12,7 @@ use Rattle.packet.specs.Read.{window}
 use Rattle.frame.specs.Contents.{Contents}
 use Rattle.packet_bytes.specs.Bytes.{packetBytes}
 use Rattle.recording.specs.declared.Recording.{Recording}
-use Rattle.recording.proofs.HandedOut.{hands-out-once}
+use Rattle.promises.proofs.HandedOut.{hands-out-once}
 use Rattle.promises.specs.Contents.{Accepts, AllAccepted, nil, cons, written, contentsOf}
 use Rattle.promises.specs.Altered.{Altered, Pieces, none, intact, altered, FirstAltered}
 use Rattle.promises.specs.ReadsAs.{ReadsAs}

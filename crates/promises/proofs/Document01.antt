@@ -27,13 +27,13 @@ use Rattle.packet.specs.declared.PacketRead.the-variants.{Accepted, Refused}
 use Rattle.packet.specs.declared.PacketWrite.{PacketWrite}
 use Rattle.packet.specs.declared.PacketWrite.the-variants.{Written}
 use Rattle.recording.specs.Reading.{reading}
-use Rattle.recording.proofs.HandedOut.{hands-out, hands-out-once}
+use Rattle.promises.proofs.HandedOut.{hands-out, hands-out-once}
 use Rattle.promises.specs.Contents.{Accepts, outputOf}
 use Rattle.promises.specs.Endings.{zeroMessage, listedTold, givenTold}
 use Rattle.promises.specs.Bodies.{BodyKept}
 use Rattle.promises.specs.Building.{FlagsFor}
 use Rattle.promises.specs.Document01.{Document01}
-use Rattle.promises.proofs.BodiesKept.{body-kept}
+use Rattle.promises.proofs.BodiesKept.{body-says}
 use Rattle.promises.proofs.Keeping.{refused-exactly}
 use Rattle.promises.proofs.WriterKeeping.{write-accepts, write-first, write-ends, write-placed, write-room, write-no-room, write-length, length-once}
 use Rattle.promises.proofs.Building.{building}
@@ -84,7 +84,7 @@ reads-back buf d es flags b closes f =
     let body = closedBody buf d in
     let ruled = rule-for (d .rule) flags f in
     let (counted, entries) = built-reads-back rule b closes ruled in
-    (body-kept (d .kind) flags body es .0 (built-body rule b closes ruled), ap checkedTold counted, entries)
+    (body-says (d .kind) flags body es (built-body rule b closes ruled), ap checkedTold counted, entries)
 
 -- ---- the writer
 

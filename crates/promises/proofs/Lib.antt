@@ -4,6 +4,7 @@ pub mod Written
 pub mod Again
 pub mod Members
 pub mod NumbersKept
+pub mod Faults
 pub mod BodiesKept
 pub mod Refusing
 pub mod Keeping
@@ -14,6 +15,7 @@ pub mod Answering
 pub mod Reported
 pub mod Spoilt
 pub mod Alterations
+pub mod HandedOut
 pub mod Recordings
 pub mod Ends
 pub mod Starred

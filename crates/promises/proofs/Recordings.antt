@@ -18,7 +18,7 @@ use Rattle.packet.specs.declared.Packet.{Packet}
 use Rattle.packet.proofs.Answers.{outer-inside, inside-made, read-refused}
 use Rattle.recording.specs.Reading.{Reading, stopped, ahead, reading, readRecording}
 use Rattle.recording.proofs.Readings.{from, from-end, from-on, from-stops, reading-inside}
-use Rattle.recording.proofs.HandedOut.{hands-out, window-behind}
+use Rattle.promises.proofs.HandedOut.{hands-out, window-behind}
 use Rattle.promises.specs.Contents.{Accepts, AllAccepted, nil, cons, written, contentsOf}
 use Rattle.promises.specs.Altered.{UnitOf, sync, primary, secondary, trailer, Altered}
 use Rattle.promises.specs.ReadsAs.{answered, ReadsAs}

@@ -37,8 +37,7 @@ use Rattle.promises.specs.Refusals.{readerRefusals}
 use Rattle.promises.specs.Endings.{zeroMessage, listedTold, givenTold}
 use Rattle.promises.specs.Reports.{messageFor, Reports}
 use Rattle.promises.proofs.Members.{among-one}
-use Rattle.body.proofs.ChannelWords.{opens-exactly}
-use Rattle.promises.proofs.BodiesKept.{body-kept, carried-counted}
+use Rattle.promises.proofs.BodiesKept.{opens-exactly, body-kept, carried-counted}
 use Rattle.promises.proofs.Keeping.{kept-messages, accepted-exactly}
 
 -- ---- what the calls say of an accepted packet with n messages
@@ -173,7 +172,7 @@ messages-there buf s e p raw h o =
     let keeps = accepted-exactly buf raw s e .0 (ap (λ (x : PacketRead). packetTold x .refusal .number) h) in
     let w = window buf s e in
     let (es, kept) = kept-messages buf s e w (keeps 15 (among-one 15 readerRefusals refl)) (opens-exactly (kindIn w) .0 o) in
-    let b = body-kept (kindIn w) (flagsIn w) (bodyIn w) es .1 kept in
+    let b = body-kept (kindIn w) (flagsIn w) (bodyIn w) es (opens-exactly (kindIn w) .0 o) .1 kept in
     (es, b, blocks-reported buf s e p es h b)
 
 -- of any other type: none

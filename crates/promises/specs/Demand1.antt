@@ -15,7 +15,7 @@ use Rattle.packet.specs.declared.Packet.{Packet}
 use Rattle.packet.specs.declared.PacketList.{PacketList}
 use Rattle.packet.specs.declared.PacketWrite.{PacketWrite}
 use Rattle.recording.specs.Reading.{readRecording}
-use Rattle.recording.specs.Handed.{Within, HandsOut}
+use Rattle.promises.specs.Handed.{Within, HandsOut}
 use Rattle.promises.specs.Refusals.{readerRefusals, listerRefusals, messageRefusals}
 use Rattle.promises.specs.Bodies.{BodyAtFault}
 use Rattle.promises.specs.Endings.{FromTable, zeroPacket, zeroMessage, Ends, readTold, listedTold, givenTold, Placed}

@@ -7,7 +7,6 @@ use lib.ListN.{length, take}
 use Rattle.units.specs.Units.{Bytes, part}
 use Rattle.terms.specs.Refusals.{refused, noRefusal}
 use Rattle.body.specs.Blocks.{Entry}
-use Rattle.body.specs.Layout.{OpenedType}
 use Rattle.packet.specs.Read.{window, readPacket, Together, packetTold}
 use Rattle.frame.specs.Contents.{Contents}
 use Rattle.packet.specs.Messages.{listPacket, messagePacket, listTold, messageTold}
@@ -15,8 +14,9 @@ use Rattle.packet.specs.Write.{writePacket, writeTold}
 use Rattle.packet.specs.declared.Part.{Part}
 use Rattle.packet.specs.declared.Packet.{Packet}
 use Rattle.promises.specs.Contents.{Typed, outputOf, contentsOf}
+use Rattle.promises.specs.Refusals.{OneOf}
 use Rattle.promises.specs.Endings.{zeroMessage, readTold, listedTold, givenTold, writtenTold}
-use Rattle.promises.specs.Bodies.{BodyKept}
+use Rattle.promises.specs.Bodies.{openedTypes, BodyKept}
 use Rattle.promises.specs.Keeps.{flags, type, bodyBytes, Keeps}
 use Rattle.promises.specs.Reports.{PacketThere, Reports}
 
@@ -41,14 +41,14 @@ pub record Demand2 : Type 0 where
       ≡ bytesIn buf (p .header) ++ (bytesIn buf (p .secondary) ++ (bytesIn buf (p .body) ++ (bytesIn buf (p .filler) ++ bytesIn buf (p .sum)))))
   -- the messages of a type that we open are the blocks of its body, all of them, each where it stands
   pub messages-there : (buf : List ℕ) → Bytes buf → (start end : ℕ) (p : Packet) → packetTold (readPacket buf start end) ≡ readTold noRefusal p
-      → OpenedType (type (window buf start end))
+      → OneOf (type (window buf start end)) openedTypes
       → (es : List Entry) × (b : BodyKept (type (window buf start end)) (flags (window buf start end)) (bodyBytes (window buf start end)) es)
       × Reports buf start end es (b .form)
   -- a body is the blocks of one list, and of no other
-  pub messages-once : (kind flags : ℕ) (bs : List ℕ) (es ds : List Entry) → BodyKept kind flags bs es → BodyKept kind flags bs ds → es ≡ ds
+  pub messages-once : (kind flags : ℕ) (bs : List ℕ) (es ds : List Entry) → OneOf kind openedTypes → BodyKept kind flags bs es → BodyKept kind flags bs ds → es ≡ ds
   -- of any other type there are none
   pub carried-none : (buf : List ℕ) (start end : ℕ) (p : Packet) → packetTold (readPacket buf start end) ≡ readTold noRefusal p
-      → ¬ OpenedType (type (window buf start end))
+      → ¬ OneOf (type (window buf start end)) openedTypes
       → ((len₁ len₂ : ℕ) → listTold (listPacket buf start end len₁ len₂) ≡ listedTold noRefusal 0)
       × ((number : ℕ) → messageTold (messagePacket buf start end number) ≡ givenTold (refused 17 start) zeroMessage)
   -- "What the writer writes reads back as given": the n bytes that it wrote into any output, at any place of any buffer, whatever

@@ -19,7 +19,7 @@ use Rattle.packet.specs.Messages.{listPacket, messagePacket, listTold, messageT
 use Rattle.packet.specs.Write.{writePacket, writeTold}
 use Rattle.packet.specs.declared.Packet.{Packet}
 use Rattle.recording.specs.Reading.{readRecording}
-use Rattle.recording.specs.Handed.{HandsOut}
+use Rattle.promises.specs.Handed.{HandsOut}
 use Rattle.promises.specs.Contents.{Typed, Accepts, outputOf}
 use Rattle.promises.specs.Refusals.{OneOf, readerRefusals, writerRefusals}
 use Rattle.promises.specs.Endings.{zeroMessage, Ends, listedTold, givenTold, writtenTold}

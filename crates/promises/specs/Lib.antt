@@ -2,6 +2,7 @@ pub mod Calls
 pub mod Contents
 pub mod Refusals
 pub mod Numbers
+pub mod Faults
 pub mod Bodies
 pub mod Keeps
 pub mod WriterKeeps
@@ -11,6 +12,7 @@ pub mod Answering
 pub mod Building
 pub mod Reports
 pub mod Altered
+pub mod Handed
 pub mod ReadsAs
 pub mod Demand1
 pub mod Demand2

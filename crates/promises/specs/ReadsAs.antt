@@ -7,7 +7,7 @@ use Rattle.terms.specs.declared.Refusal.{Refusal}
 use Rattle.frame.specs.Contents.{Contents}
 use Rattle.packet.specs.declared.Packet.{Packet}
 use Rattle.recording.specs.Reading.{readRecording}
-use Rattle.recording.specs.Handed.{HandsOut}
+use Rattle.promises.specs.Handed.{HandsOut}
 use Rattle.recording.specs.declared.Recording.{Recording}
 use Rattle.promises.specs.Contents.{contentsOf}
 

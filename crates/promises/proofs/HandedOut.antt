@@ -24,10 +24,10 @@ use Rattle.packet.proofs.Own.{accepted-fits}
 use Rattle.packet.proofs.Answers.{inside-says, inside-made, inside-same, read-refused}
 use Rattle.packet.proofs.Told.{read-told, refusal-numbered}
 use Rattle.packet.proofs.Window.{read-window}
 use Rattle.recording.specs.Reading.{Reading, stopped, ahead, onward, readFrom, reading, readRecording}
-use Rattle.recording.specs.Handed.{lengthOf, Within, HandsOut}
+use Rattle.promises.specs.Handed.{lengthOf, Within, HandsOut}
 use Rattle.recording.specs.declared.Recording.{Recording}
 use Rattle.recording.proofs.Readings.{from, from-end, from-on, from-stops, reading-inside, reading-outside}
 
 -- what is told of a packet that is accepted
 abbrev accepted : Packet → PacketTold

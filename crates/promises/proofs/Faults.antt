@@ -13,32 +13,40 @@ use lib.Dec.{ltb, leb}
 use borrow.Author.Tests.{ltb-false, leb-true, leb-false, le-leb, lt-leb, lt-ltb}
 use Rattle.units.specs.Units.{Bytes, field}
 use Rattle.units.proofs.Choices.{and-true}
 use Rattle.body.specs.Walk.{opens, openBody, blockAt, stopAt, walkFrom, walk}
 use Rattle.terms.specs.Refusals.{fault}
 use Rattle.body.specs.Answers.{checkOpened, checkBody, tab}
-use Rattle.body.specs.Blocks.{Entry, blockBytes, Fits, Each, AllFit, blocksBytes, messageOn, entryAt}
-use Rattle.body.specs.Layout.{OpenedType, Asked, exactly, toTheEnd, ChannelWord, Due}
-use Rattle.body.specs.Faults.{Begins, RightBlock, AtFault, cut, word, block, over}
+use Rattle.body.specs.Blocks.{Entry, blockBytes, Fits, AllFit, blocksBytes, messageOn, entryAt}
+use Rattle.body.specs.Layout.{OpenedType, Asked, exactly, toTheEnd, ChannelWord}
+use Rattle.promises.specs.Faults.{Each, Due, Begins, RightBlock, AtFault, cut, word, block, over}
 use Rattle.terms.specs.declared.TimeRule.{TimeRule}
 use Rattle.terms.specs.declared.Refusal.{Refusal}
 use Rattle.body.specs.declared.Form.{Form}
 use Rattle.body.specs.declared.Shape.{Shape}
 use Rattle.body.specs.declared.Message.{Message}
 use Rattle.body.specs.declared.Opened.{Opened}
 use Rattle.body.specs.declared.Opened.the-variants.{Carried, Shaped, Wrong}
 use Rattle.body.specs.declared.Block.{Block}
 use Rattle.body.specs.declared.Block.the-variants.{Found, Broken}
 use Rattle.body.specs.declared.Checked.the-variants.{Faulty}
 use Rattle.body.proofs.Walking.{stands-found, found-next, Walking, walking-first, walking-next, walk-stop, walk-broken, walk-found, Counting, counting-first, counting-stop, counting-broken, counting-next, ending-over}
 use Rattle.body.proofs.Reading.{length-tab}
 use Rattle.body.proofs.Whole.{entryOn, stands-there, on-before, found-is, found-fits, Come, come-first, come-next, open-not-carried}
 use Rattle.body.proofs.Exactly.{check-shaped}
 use Rattle.body.proofs.Bounds.{FaultAt, fault-place, broken-at, ending-faulty}
 use Rattle.body.proofs.ChannelWords.{opens-exactly, countedBy, countBy, shapeOf, word-says, word-made}
 
 -- a block keeps the rules under a time rule
 abbrev pub RightBy : TimeRule → Form → Entry → Type 0
 RightBy rule form e = Fits form rule e
+
+pub fit-each : (form : Form) (rule : TimeRule) (es : List Entry) → AllFit form rule es → Each (RightBy rule form) es
+fit-each form rule [] all = tt
+fit-each form rule (e ∷ es) all = (all .0, fit-each form rule es (all .1))
+
+pub each-fit : (form : Form) (rule : TimeRule) (es : List Entry) → Each (RightBy rule form) es → AllFit form rule es
+each-fit form rule [] all = tt
+each-fit form rule (e ∷ es) all = (all .0, each-fit form rule es (all .1))
 
 -- ---- one place: what the walk finds there, and whether it goes on
 
@@ -116,7 +124,7 @@ module _ (kind : ℕ) (rule : TimeRule) (bs : List ℕ) (form : Form) (asked : A
           word = right-word;
           is =
               sym (take-append-drop at bs) ∙ ap (λ (l : List ℕ). l ++ drop at bs) (come .is) ∙ append-assoc (take 4 bs) blocks (drop at bs);
-          right = come .fit;
+          right = fit-each form rule es (come .fit);
         },
         omega (arith, l, four, ap length (come .is), length-append (take 4 bs) blocks),
       )
@@ -242,7 +250,7 @@ module _ (kind : ℕ) (rule : TimeRule) (bs : List ℕ) (form : Form) (asked : A
   begins-come =
       let first = counting-first its-shape bs (b .long) in
       rw (zero-add, first-four) at
-      (come-along its-shape bs rest es (take 4 bs) 0 (b .is) (b .right) (λ j at h. on-before its-shape bs (length es) within j at (omega arith))
+      (come-along its-shape bs rest es (take 4 bs) 0 (b .is) (each-fit form rule es (b .right)) (λ j at h. on-before its-shape bs (length es) within j at (omega arith))
       (rw first-four first))
 
   begins-left : (length bs ≡ place + length rest) × (drop place bs ≡ rest)

@@ -1,13 +1,25 @@
 -- Where a body that breaks its layout is at fault (document 01, the place of 15): said by the blocks that stand before that place. No test of
 -- the reader's is cited. Places are counted from the body's first byte.
 use mathlib.Core.Path.{_≡_}
-use mathlib.Core.List.{List, _++_}
+use mathlib.Core.List.{List, [], _∷_, _++_}
+use mathlib.Core.Logic.{_⊎_}
 use Prim.Native.Nat.{ℕ, _+_, _≤_, _<_}
 use lib.ListN.{length, take}
 use Rattle.units.specs.Units.{field}
-use Rattle.body.specs.Blocks.{Entry, blockBytes, Each, blocksBytes}
-use Rattle.body.specs.Layout.{OpenedType, Asked, exactly, ChannelWord, Due}
+use Rattle.body.specs.Blocks.{Entry, blockBytes, blocksBytes}
+use Rattle.body.specs.Layout.{OpenedType, Asked, exactly, toTheEnd, ChannelWord}
 use Rattle.body.specs.declared.Form.{Form}
+
+-- each of some blocks
+abbrev pub Each : (Entry → Type 0) → List Entry → Type 0
+Each Right [] = Unit {0}
+Each Right (e ∷ es) = Right e × Each Right es
+
+-- behind k blocks, with `rest` to come, one more is due: they are fewer than the channel word says; or, where they go to the end of the body,
+-- there is none yet, or the body goes on
+abbrev pub Due : Asked → ℕ → List ℕ → Type 0
+Due (exactly count) k rest = k < count
+Due toTheEnd k rest = (k ≡ 0) ⊎ (1 ≤ length rest)
 
 -- bs begins with a right channel word of 4 bytes and these blocks, which keep the rules; then comes `rest`. Right form e: block e of that form
 -- keeps the rules
