@@ -26,8 +26,3 @@ pub data ChannelWord (kind word : ℕ) : Form → Asked → Type 0 where
   -- 0x50: bits 30-0 are zero; a time stamp only if bit 31 is set; one or more blocks, to the end of the body
   timed : kind ≡ 0x50 → word % 2 ^ 31 ≡ 0 → 2 ^ 31 ≤ word → ChannelWord kind word Stamped toTheEnd
   untimed : kind ≡ 0x50 → word % 2 ^ 31 ≡ 0 → word < 2 ^ 31 → ChannelWord kind word Plain toTheEnd
-
--- n blocks are as many as that
-abbrev pub AsMany : Asked → ℕ → Type 0
-AsMany (exactly count) n = n ≡ count
-AsMany toTheEnd n = 1 ≤ n

@@ -1,10 +1,13 @@
 -- The interface says of words wider than what they stand for what its header says.
-use mathlib.Core.Path.{_≡_, refl, ap}
+use mathlib.Core.Path.{_≡_, refl, ap, _∙_}
+use mathlib.Core.List.{List, _∷_}
 use mathlib.Core.Bool.{Bool, true, false}
 use mathlib.Core.Logic.{_≢_}
 use Prim.Native.Nat.{ℕ, _≤_, _<_}
 use native.Mathlib.Omega.{arith}
+use lib.ListN.{getD}
 use lib.Dec.{ltb}
+use Rattle.terms.specs.declared.Refusal.{Refusal}
 use borrow.Author.Tests.{lt-ltb, le-ltb}
 use Rattle.units.specs.Choice.{pick}
 use Rattle.terms.specs.Refusals.{refused, needing, fault}
@@ -15,7 +18,8 @@ use Rattle.builder.specs.declared.Step.the-variants.{Done, Denied}
 use Rattle.frame.specs.declared.Fields.{Fields}
 use Rattle.ch11.specs.Words.{packetWords, listWords, messageWords, recordingWords, writtenWords, draftWords}
 use Rattle.ch11.specs.Given.{fieldsFit, writeGiven, addGiven}
-use Rattle.ch11.specs.Interface.{Held, Interface}
+use Rattle.ch11.specs.Calls.{Holds}
+use Rattle.ch11.specs.Interface.{Held, Answers, Interface}
 use Rattle.ch11.proofs.Giving.{fits}
 
 -- ---- the writer
@@ -95,6 +99,12 @@ module _ (d : Draft) (len time upper n : ℕ) where
       go true q = rw (bad-made d len time n q)
       go false q = rw (le-ltb 65535 upper narrow)
 
+-- ---- the calls
+
+-- a struct that begins with a refusal, and its first word returned
+answers : (r : Refusal) (rest : List ℕ) (n : ℕ) (s : List ℕ) → Holds (r .number ∷ rest) n s → Answers r (r .number ∷ rest) n s
+answers r rest n s (is, first) = (first ∙ ap (λ (l : List ℕ). getD l 0 0) is, is)
+
 pub interface : Interface
 unfolding packetWords listWords messageWords recordingWords writtenWords draftWords writeGiven
 interface =
@@ -109,6 +119,14 @@ interface =
       draft-given = λ number place room used blocks kind rule. refl;
       write-17 = λ c room n. rw (unheld (c .fields) n);
       writes = λ c room h. rw (fit-made (c .fields) h);
+      read-packet = λ buf start end n s h. answers _ _ n s h;
+      list-messages = λ buf start end starts₀ lengths₀ n s starts₁ lengths₁ (h, a, b). (_, refl, answers _ _ n s h, a, b);
+      give-message = λ buf start end number n s h. answers _ _ n s h;
+      read-recording = λ buf start end n s h. answers _ _ n s h;
+      write-packet = λ fields body out₀ n s out₁ (h, o). (_, refl, answers _ _ n s h, o);
+      open-body = λ draft₀ buf₀ kind rule n s buf₁ (h, b). (_, refl, answers _ _ n s h, b);
+      add-block = λ draft₀ buf₀ time upper bytes n s buf₁ (h, b). (_, refl, answers _ _ n s h, b);
+      close-body = λ draft₀ buf₀ n s buf₁ (h, b). (_, refl, answers _ _ n s h, b);
       add-17 = given-17;
       add-1 = λ d len time upper n e. given-1 d len time upper n (bad-says d len time n e);
       adds = given-as;

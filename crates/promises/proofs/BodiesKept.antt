@@ -14,7 +14,7 @@ use Rattle.terms.specs.declared.Refusal.{Refusal}
 use Rattle.body.specs.Walk.{opens, openBody, stampLength, lengthBy}
 use Rattle.body.specs.Answers.{checkBody}
 use Rattle.body.specs.Blocks.{Entry, Fits, entriesIn, BodyOf}
-use Rattle.body.specs.Layout.{OpenedType, Asked, exactly, toTheEnd, ChannelWord, many, single, segment, timed, untimed, AsMany}
+use Rattle.body.specs.Layout.{OpenedType, Asked, exactly, toTheEnd, ChannelWord, many, single, segment, timed, untimed}
 use Rattle.body.specs.declared.Form.{Form}
 use Rattle.body.specs.declared.Form.the-variants.{Stamped, Plain}
 use Rattle.body.specs.declared.Checked.{Checked}
@@ -79,6 +79,11 @@ pub carries : (kind : ℕ) → ¬ OneOf kind openedTypes → opens kind ≡ fals
 carries kind other = Words.carries kind (λ o. other (opened-is kind .1 o))
 
 -- ---- the channel word
+
+-- n blocks are as many as it asks for
+abbrev AsMany : Asked → ℕ → Type 0
+AsMany (exactly count) n = n ≡ count
+AsMany toTheEnd n = 1 ≤ n
 
 -- a right one, with as many blocks as it asks for
 record WordKept (kind word n : ℕ) (form : Form) : Type 0 where
