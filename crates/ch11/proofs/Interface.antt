@@ -7,7 +7,6 @@ use Prim.Native.Nat.{ℕ, _≤_, _<_}
 use native.Mathlib.Omega.{arith}
 use lib.ListN.{getD}
 use lib.Dec.{ltb}
-use Rattle.terms.specs.declared.Refusal.{Refusal}
 use borrow.Author.Tests.{lt-ltb, le-ltb}
 use Rattle.units.specs.Choice.{pick}
 use Rattle.terms.specs.Refusals.{refused, needing, fault}
@@ -102,8 +101,8 @@ module _ (d : Draft) (len time upper n : ℕ) where
 -- ---- the calls
 
 -- a struct that begins with a refusal, and its first word returned
-answers : (r : Refusal) (rest : List ℕ) (n : ℕ) (s : List ℕ) → Holds (r .number ∷ rest) n s → Answers r (r .number ∷ rest) n s
-answers r rest n s (is, first) = (first ∙ ap (λ (l : List ℕ). getD l 0 0) is, is)
+answers : (number : ℕ) (rest : List ℕ) (n : ℕ) (s : List ℕ) → Holds (number ∷ rest) n s → Answers number (number ∷ rest) n s
+answers number rest n s (is, first) = (first ∙ ap (λ (l : List ℕ). getD l 0 0) is, is)
 
 pub interface : Interface
 unfolding packetWords listWords messageWords recordingWords writtenWords draftWords writeGiven

@@ -7,7 +7,6 @@ use mathlib.Core.Logic.{_≢_}
 use Prim.Native.Nat.{ℕ, _≤_, _<_}
 use lib.ListN.{length}
 use Rattle.units.specs.Units.{bytesOf}
-use Rattle.terms.specs.declared.Refusal.{Refusal}
 use Rattle.body.specs.Blocks.{blockBytes}
 use Rattle.builder.specs.Build.{formOf, openStep, openWord, addStep, entryOf, closeStep, counterBytes, bufAfter, StepTold, stepTold}
 use Rattle.builder.specs.declared.Draft.{Draft}
@@ -35,8 +34,8 @@ pub record Held (f : Fields) : Type 0 where
   pub kind : f .kind ≤ 255
 
 -- a call returns its refusal's number, and its struct holds these words
-abbrev pub Answers : Refusal → List ℕ → ℕ → List ℕ → Type 0
-Answers r words n struct = (n ≡ r .number) × (struct ≡ words)
+abbrev pub Answers : ℕ → List ℕ → ℕ → List ℕ → Type 0
+Answers number words n struct = (n ≡ number) × (struct ≡ words)
 
 pub record Interface : Type 0 where
   -- struct ch11_packet: refusal, fields, lengths and sums, the five parts
@@ -79,24 +78,24 @@ pub record Interface : Type 0 where
   -- ---- the calls: each answers as the one below it, of the same arguments
 
   pub read-packet : (buf : List ℕ) (start end n : ℕ) (s : List ℕ) → Calls.ReadPacket buf start end n s
-      → Answers (packetTold (readPacket buf start end) .refusal) (packetWords (packetTold (readPacket buf start end))) n s
+      → Answers (packetTold (readPacket buf start end) .refusal .number) (packetWords (packetTold (readPacket buf start end))) n s
   pub list-messages : (buf : List ℕ) (start end : ℕ) (starts₀ lengths₀ : List ℕ) (n : ℕ) (s starts₁ lengths₁ : List ℕ)
       → Calls.ListMessages buf start end starts₀ lengths₀ n s starts₁ lengths₁
-      → (t : PacketList) × (t ≡ listPacket buf start end (length starts₀) (length lengths₀)) × Answers (listTold t .refusal) (listWords (listTold t)) n s
+      → (t : PacketList) × (t ≡ listPacket buf start end (length starts₀) (length lengths₀)) × Answers (listTold t .refusal .number) (listWords (listTold t)) n s
       × (starts₁ ≡ listAfter t (starts (window buf start end)) starts₀) × (lengths₁ ≡ listAfter t (lengths (window buf start end)) lengths₀)
   pub give-message : (buf : List ℕ) (start end number n : ℕ) (s : List ℕ) → Calls.GiveMessage buf start end number n s
-      → Answers (messageTold (messagePacket buf start end number) .refusal) (messageWords (messageTold (messagePacket buf start end number))) n s
+      → Answers (messageTold (messagePacket buf start end number) .refusal .number) (messageWords (messageTold (messagePacket buf start end number))) n s
   pub read-recording : (buf : List ℕ) (start end n : ℕ) (s : List ℕ) → Calls.ReadRecording buf start end n s
-      → Answers (readRecording buf start end .refusal) (recordingWords (readRecording buf start end)) n s
+      → Answers (readRecording buf start end .refusal .number) (recordingWords (readRecording buf start end)) n s
   pub write-packet : (fields body out₀ : List ℕ) (n : ℕ) (s out₁ : List ℕ) → Calls.WritePacket fields body out₀ n s out₁
-      → (t : PacketWrite) × (t ≡ writeGiven (contents (fieldsOf fields) body) (length out₀)) × Answers (writeTold t .refusal) (writtenWords (writeTold t)) n s
+      → (t : PacketWrite) × (t ≡ writeGiven (contents (fieldsOf fields) body) (length out₀)) × Answers (writeTold t .refusal .number) (writtenWords (writeTold t)) n s
       × (out₁ ≡ outAfter t out₀ (packetBytes (contents (fieldsOf fields) body)))
   pub open-body : (draft₀ buf₀ : List ℕ) (kind rule n : ℕ) (s buf₁ : List ℕ) → Calls.Open draft₀ buf₀ kind rule n s buf₁
-      → (t : Step) × (t ≡ openStep (draftOf draft₀) kind rule (length buf₀)) × Answers (stepTold t .refusal) (draftWords (stepTold t)) n s
+      → (t : Step) × (t ≡ openStep (draftOf draft₀) kind rule (length buf₀)) × Answers (stepTold t .refusal .number) (draftWords (stepTold t)) n s
       × (buf₁ ≡ bufAfter t buf₀ 0 (bytesOf 4 (openWord kind rule)))
   pub add-block : (draft₀ buf₀ : List ℕ) (time upper : ℕ) (bytes : List ℕ) (n : ℕ) (s buf₁ : List ℕ) → Calls.Add draft₀ buf₀ time upper bytes n s buf₁
-      → (t : Step) × (t ≡ addGiven (draftOf draft₀) (length buf₀) time upper (length bytes)) × Answers (stepTold t .refusal) (draftWords (stepTold t)) n s
+      → (t : Step) × (t ≡ addGiven (draftOf draft₀) (length buf₀) time upper (length bytes)) × Answers (stepTold t .refusal .number) (draftWords (stepTold t)) n s
       × (buf₁ ≡ bufAfter t buf₀ (draftOf draft₀ .used) (blockBytes (formOf (draftOf draft₀)) (entryOf time upper bytes)))
   pub close-body : (draft₀ buf₀ : List ℕ) (n : ℕ) (s buf₁ : List ℕ) → Calls.Close draft₀ buf₀ n s buf₁
-      → (t : Step) × (t ≡ closeStep (draftOf draft₀) (length buf₀)) × Answers (stepTold t .refusal) (draftWords (stepTold t)) n s
+      → (t : Step) × (t ≡ closeStep (draftOf draft₀) (length buf₀)) × Answers (stepTold t .refusal .number) (draftWords (stepTold t)) n s
       × (buf₁ ≡ bufAfter t buf₀ 0 (counterBytes (draftOf draft₀)))
