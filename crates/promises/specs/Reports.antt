@@ -39,7 +39,8 @@ pub record PacketThere (w : List ℕ) (at : ℕ) (p : Packet) : Type 0 where
   pub filler : p .filler ≡ partAt (at + (Of.body w + Of.D w)) (Of.sumPlace w - (Of.body w + Of.D w))
   pub sum : p .sum ≡ partAt (at + Of.sumPlace w) (width (Of.flags w))
 
--- the k-th of some blocks as a message of the packet at the start of w, its start counted from the packet's first byte: behind the channel word and the blocks before it
+-- the k-th of some blocks as a message of the packet at the start of w, its start counted from the packet's first byte: behind the channel word
+-- and the blocks before it
 abbrev pub messageFor : List ℕ → Form → List Entry → ℕ → Message
 messageFor w form es k = messageOn form (Of.body w + 4 + length (blocksBytes form (take k es))) (getD es k noEntry)
 
