@@ -1,19 +1,22 @@
 -- What the writer and the builder's steps say of words, from what they say of narrower numbers.
 use mathlib.Core.Path.{_≡_, refl, sym, ap, _∙_}
-use mathlib.Core.List.{List, _∷_}
+use mathlib.Core.List.{List, [], _∷_}
 use mathlib.Core.Bool.{Bool, true, false, not, _&&_, _||_}
 use mathlib.Core.Logic.{_⊎_, inl, inr}
-use Prim.Native.Nat.{ℕ, _+_, _^_, _<_, _≤_}
+use Prim.Native.Nat.{ℕ, _+_, _-_, _%_, _^_, _<_, _≤_}
 use native.Mathlib.Omega.{arith}
 use lib.ListN.{length, drop, getD, drop-of-length-le}
 use lib.Seq.{drop-cons}
 use lib.Dec.{ltb, eqb}
 use borrow.Author.Tests.{ltb-true, ltb-false, lt-ltb, le-ltb, ne-eqb}
+use Rattle.units.specs.Units.{part}
 use Rattle.units.specs.Choice.{pick}
+use Rattle.units.proofs.Parts.{part-whole}
 use Rattle.units.proofs.Choices.{or-true, or-false, and-true}
 use Rattle.terms.specs.Refusals.{refused, needing}
 use Rattle.terms.specs.declared.Refusal.{Refusal}
-use Rattle.builder.specs.Build.{counts, makes, stamped, badDraft, freshDraft, openStep, addStep, closeStep, bufAfter, stepTold}
+use Rattle.body.specs.Blocks.{blockBytes}
+use Rattle.builder.specs.Build.{counts, makes, stamped, badDraft, formOf, freshDraft, openStep, addStep, entryOf, closeStep, bufAfter, stepTold}
 use Rattle.builder.proofs.Drafts.{not-done, buf-kept}
 use Rattle.builder.specs.declared.Draft.{Draft}
 use Rattle.builder.specs.declared.Step.{Step}
@@ -194,3 +197,31 @@ upper-as e d s len time upper n words old new at at′ vs vs′ far q is w b =
     let same : s ≡ addGiven d len time upper n = is ∙ ap (λ (x : Draft). addStep x len time 0) q ∙ upper-over d len time upper n far in
     let kept : new ≡ old = b ∙ ap (λ (t : Step). bufAfter t old at vs) same ∙ upper-kept d len time upper n old at vs far in
     (w ∙ ap (λ (t : Step). draftWords (stepTold t)) same, kept ∙ sym (upper-kept d len time upper n old at′ vs′ far))
+
+-- adding the first k bytes, which are none where the upper half does not fit
+module _ (e d : Draft) (s : Step) (len time upper k : ℕ) (bytes words old new : List ℕ) (q : e ≡ d) (is : s ≡ addStep e len time (length (part bytes 0 (k - 0))))
+    (w : words ≡ draftWords (stepTold s)) (b : new ≡ bufAfter s old (e .used) (blockBytes (formOf e) (entryOf time (upper % 0x10000) (part bytes 0 (k - 0))))) where
+  abbrev As : Type 0
+  As =
+      (words ≡ draftWords (stepTold (addGiven d len time upper (length bytes))))
+      × (new ≡ bufAfter (addGiven d len time upper (length bytes)) old (d .used) (blockBytes (formOf d) (entryOf time upper bytes)))
+
+  over : 65535 < upper → k ≡ 0 → As
+  over far none =
+      let ended : part bytes 0 (k - 0) ≡ [] = rw none refl in
+      upper-as e d s len time upper (length bytes) words old new (e .used) (d .used) _ _ far q (is ∙ ap (λ (l : List ℕ). addStep e len time (length l)) ended) w b
+
+  within : upper ≤ 65535 → k ≡ length bytes → As
+  within near all =
+      let whole : part bytes 0 (k - 0) ≡ bytes = rw all (part-whole bytes) in
+      let same : upper % 0x10000 ≡ upper = omega arith in
+      step-as (λ x. addGiven x len time upper (length bytes)) (λ x. x .used) (λ x. blockBytes (formOf x) (entryOf time upper bytes)) e d s words old new q
+      (is ∙ ap (λ (l : List ℕ). addStep e len time (length l)) whole ∙ upper-fits e len time upper (length bytes) near) w
+      (b ∙ rw (same, whole) refl)
+
+  pub add-as : k ≡ pick (ltb 65535 upper) 0 (length bytes) → As
+  add-as h = go (ltb 65535 upper) refl h
+    where
+      go : (t : Bool) → ltb 65535 upper ≡ t → k ≡ pick t 0 (length bytes) → As
+      go true far none = over (ltb-true 65535 upper far) none
+      go false near all = within (ltb-false 65535 upper near) all

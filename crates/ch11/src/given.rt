@@ -1,8 +1,10 @@
 // The writer and the builder's steps on what they are given as words.
 ghost use mathlib.Core.Path.{_≡_};
 ghost use mathlib.Core.Bool.{true, false, _||_};
+ghost use Prim.Native.Nat.{_≤_};
 ghost use lib.ListN.{length};
 ghost use lib.Dec.{ltb};
+ghost use Rattle.units.specs.Choice.{pick};
 ghost use Rattle.units.specs.Units.{bytesOf};
 ghost use Rattle.body.specs.Blocks.{blockBytes};
 ghost use Rattle.builder.specs.Build.{formOf, openStep, openWord, entryOf, closeStep, counterBytes, bufAfter, stepTold};
@@ -103,6 +105,14 @@ pub fn open_given(ws: [u64; DRAFT], buf: &mut [u8], kind: u64, rule: u64) -> [u6
     }
 }
 
+// How many of n bytes adding is given: none beside an upper half that does not fit.
+fn bytes_beside(upper: u64, n: usize) -> usize
+    ensures { λ r. ⌜ r ≡ pick (ltb 65535 upper) 0 n ⌝ }
+    ensures { λ r. ⌜ r ≤ n ⌝ }
+{
+    if 65535 < upper { 0 } else { n }
+}
+
 // Adds a block; an upper half that does not fit is refused as a block of no bytes is: 1, then 17.
 pub fn add_given(
     ws: [u64; DRAFT],
@@ -118,10 +128,8 @@ pub fn add_given(
         return denied_words(refuse(1, 0), ws);
     }
     let draft = draft_of(ws);
-    if 65535 < upper {
-        return step_words(draft.add(buf, time, 0, b""));
-    }
-    step_words(draft.add(buf, time, upper as u16, bytes))
+    let n = bytes_beside(upper, bytes.len());
+    step_words(draft.add(buf, time, (upper % 0x1_0000) as u16, &bytes[0..n]))
 }
 
 // Closes a body.

@@ -5,8 +5,8 @@ use Prim.Native.Nat.{ℕ, _+_, _%_, _/_, _^_, _≤_, _<_}
 use native.Mathlib.Omega.{arith}
 use native.Mathlib.Nat.{add-zero}
 use native.Mathlib.Numerals.{add-one}
-use lib.ListN.{length, take, drop, getD, set, length-append, length-drop, take-append-drop}
-use lib.Seq.{paste, paste-suc, take-length, sets, sets-eq, length-take-le, drop-drop, take-at, drop-at}
+use lib.ListN.{length, take, drop, getD, set, replicate, length-append, length-drop, take-append-drop, length-replicate, replicate-append-replicate}
+use lib.Seq.{paste, paste-suc, length-paste-head, take-length, sets, sets-eq, length-take-le, drop-drop, take-at, drop-at, set-append-left, take-set-lt, drop-set-lt}
 use Rattle.units.specs.Units.{part, bytesOf, splice}
 use Rattle.units.proofs.Numbers.{length-bytesOf, bytesOf-add, bytesOf-mod}
 use Rattle.units.proofs.Parts.{part-front}
@@ -80,3 +80,38 @@ paste-step d at s i v h l e = rw (add-one, ← e) (paste-suc d at s i 0 (omega a
 
 pub paste-whole : (d : List ℕ) (at : ℕ) (s : List ℕ) (i : ℕ) → i ≡ length s → paste d at s i ≡ splice d at s
 paste-whole d at s i e = rw e (ap (λ (l : List ℕ). take at d ++ l ++ drop (at + length s) d) (take-length s))
+
+-- a store ahead of what such a loop writes
+set-before : (d : List ℕ) (at : ℕ) (s : List ℕ) (i k v : ℕ) → k < at → at ≤ length d → set (paste d at s i) k v ≡ paste (set d k v) at s i
+set-before d at s i k v h l =
+    let f : length (take at d) ≡ at = length-take-le at d l in
+    set-append-left (take at d ++ take i s) (drop (at + i) d) k v (simp length-append (omega (arith, f)))
+    ∙ rw (set-append-left (take at d) (take i s) k v (omega (arith, f)), take-set-lt at d k v h, drop-set-lt (at + i) d k v (omega arith)) refl
+
+length-paste : (d : List ℕ) (at : ℕ) (s : List ℕ) (i : ℕ) → at + i ≤ length d → i ≤ length s → length (paste d at s i) ≡ length d
+length-paste d at s i h l =
+    let f : length (take at d ++ take i s) ≡ at + i = length-paste-head d at s i (omega arith) l in
+    simp (length-append (take at d ++ take i s), length-drop) (omega (arith, f))
+
+-- a loop that writes a list at two places, a byte of each a turn
+abbrev pub twice : List ℕ → ℕ → ℕ → List ℕ → ℕ → List ℕ
+twice d at next s i = paste (paste d at s i) next s i
+
+module _ (d : List ℕ) (at next : ℕ) (s : List ℕ) (is : next ≡ at + length s) (fits : next + length s ≤ length d) (i : ℕ) where
+  pub twice-step : (v : ℕ) → i < length s → getD s i 0 ≡ v → set (set (twice d at next s i) (at + i) v) (next + i) v ≡ twice d at next s (i + 1)
+  twice-step v l e =
+      let f : length (paste d at s i) ≡ length d = length-paste d at s i (omega arith) (omega arith) in
+      let g : length (paste d at s (i + 1)) ≡ length d = length-paste d at s (i + 1) (omega arith) (omega arith) in
+      rw (set-before (paste d at s i) next s i (at + i) v (omega arith) (omega arith), paste-step d at s i v (omega arith) l e)
+      (paste-step (paste d at s (i + 1)) next s i v (omega arith) l e)
+
+  pub twice-whole : i ≡ length s → twice d at next s i ≡ splice d at (s ++ s)
+  twice-whole e = rw (paste-whole d at s i e, paste-whole (splice d at s) next s i e) (splice-splice d at s (omega arith) next s is fits)
+
+-- one more of the same behind a run of them
+pub one-more : (d e : List ℕ) (at m n v : ℕ) → e ≡ splice d at (replicate m v) → n ≡ m + 1 → at + n ≤ length d → set e (at + m) v ≡ splice d at (replicate n v)
+one-more d e at m n v is k fits =
+    let f : length (replicate {A = ℕ} m v) ≡ m = length-replicate m v in
+    let g : length e ≡ length d = rw is (length-splice d at (replicate m v) (omega arith)) in
+    chain d e (set e (at + m) v) at (at + m) (replicate m v) (replicate 1 v) is (sets-eq (replicate 1 v) e (at + m) (omega arith)) (omega arith) (omega arith)
+    ∙ rw (k, replicate-append-replicate) refl

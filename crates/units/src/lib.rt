@@ -101,8 +101,21 @@ pub fn clear_at(dst: &mut [u8], at: usize, n: usize)
     requires { ⌜ at + n ≤ length (now dst) ⌝ }
     ensures { λ _. ⌜ now (dst .exit) ≡ splice (now (dst .entry)) at (replicate n 0) ⌝ }
 {
-    for i in 0..n {
+    let half = n / 2;
+    clear_halves(dst, at, half);
+    if n % 2 == 1 {
+        dst[at + 2 * half] = 0;
+    }
+}
+
+// Clears twice `half` bytes from `at` on, both halves side by side: of a single run the compiler would make a call of libc's memset.
+fn clear_halves(dst: &mut [u8], at: usize, half: usize)
+    requires { ⌜ at + 2 * half ≤ length (now dst) ⌝ }
+    ensures { λ _. ⌜ now (dst .exit) ≡ splice (now (dst .entry)) at (replicate (2 * half) 0) ⌝ }
+{
+    for i in 0..half {
         dst[at + i] = 0;
+        dst[at + half + i] = 0;
     }
 }
 
