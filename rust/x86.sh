@@ -22,6 +22,7 @@ x86_debian_cargo() { RUSTC=/usr/bin/rustc RUSTDOC=/usr/bin/rustdoc /usr/bin/carg
 
 if [ "$(uname -m)" = x86_64 ]; then
     x86_cc=cc
+    x86_objdump=objdump
     x86_runner=
     x86_tools() {
         local missing=()
@@ -32,6 +33,7 @@ if [ "$(uname -m)" = x86_64 ]; then
     x86_cargo() { cargo "$@"; }
 else
     x86_cc=x86_64-linux-gnu-gcc
+    x86_objdump=x86_64-linux-gnu-objdump
     x86_runner=qemu-x86_64
     export CARGO_TARGET_X86_64_UNKNOWN_LINUX_GNU_LINKER=$x86_cc CARGO_TARGET_X86_64_UNKNOWN_LINUX_GNU_RUNNER=$x86_runner
     x86_tools() {

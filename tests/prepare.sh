@@ -8,5 +8,6 @@ x86_tools
 x86_counting_tools
 x86_cargo test --release --quiet --no-run -p second
 x86_cargo build --release --quiet -p generate -p second
-# This one starts the listing program, so it is built for the machine itself.
-x86_host_cargo build --release --quiet -p listings
+# These run on the machine itself: one starts the listing program, the other reads what objdump prints.
+x86_host_cargo build --release --quiet -p listings -p stack
+x86_host_cargo test --release --quiet --no-run -p stack

@@ -1,5 +1,5 @@
 #!/usr/bin/env bash
-# The tests beside rt's: the C interface from C and from Rust, the samples, the comparison with the second program, and the
+# The tests beside rt's: the C interface from C and from Rust, the stack, the samples, the comparison with the second program, and the
 # benchmark's instructions.
 # Usage: bash tests/run.sh [CALLS]: compares at least so many calls (150,000). Installs what it needs (Debian packages), and proves and
 # builds the library and the listing program first.
@@ -34,6 +34,10 @@ for source in tests/c/case_l.c examples/c/channels.c; do
 done
 says 'case L: all fields right' $x86_runner target/c/case_l
 says '0 1 7 9 9 12 20' $x86_runner target/c/channels samples/flight.ch11
+
+echo "Stack: each call, worked out and painted, held to docs/CALLS.md"
+quietly x86_host_cargo test --release --quiet --manifest-path rust/Cargo.toml -p stack
+bash tests/stack.sh target/staticlib/libch11.a
 
 echo "The samples, listed as samples/README.md says"
 while read -r sample last; do
