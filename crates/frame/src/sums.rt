@@ -8,7 +8,7 @@ use units::lanes16;
 use units::lanes32;
 use units::sum16;
 
-// The sum of the eleven words of a primary header ahead of its own (11.2.1.1).
+// The sum of the eleven words of a primary header ahead of its own (11.2.1.1), added where they are lent: nothing is copied (02 §3).
 pub fn header_sum(header: &[u8]) -> u16
     requires { ⌜ 24 ≤ length (now header) ⌝ }
     ensures { λ r. ⌜ r ≡ headerSum (now (header .entry)) ⌝ }

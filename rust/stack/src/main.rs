@@ -53,8 +53,10 @@ fn deepest(
 
 /// A line for each public call, in the order of their names.
 fn report(library: &Library, limit: u64) -> Result<Vec<String>, String> {
-    if let Some(outside) = library.outside.first() {
-        return Err(format!("{} is not in the library", outside));
+    if !library.outside.is_empty() {
+        let mut outside = library.outside.clone();
+        outside.sort();
+        return Err(format!("not in the library: {}", outside.join(", ")));
     }
     let mut all = BTreeMap::new();
     for (name, function) in &library.functions {

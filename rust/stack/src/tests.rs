@@ -165,7 +165,7 @@ fn what_is_not_in_the_library_is_refused() {
     );
     assert!(lines(&lacking)
         .expect_err("it lacks something")
-        .contains("memcpy is not in the library"));
+        .contains("not in the library: memcpy"));
     let pointed = library(
         &[("a", "ret")],
         "RELOCATION RECORDS FOR [.data.hook]:\n0000000000000000 R_X86_64_64     .text.a\n",
