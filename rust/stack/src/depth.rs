@@ -15,13 +15,17 @@ pub struct Uses {
     pub calls: Vec<(String, u64)>,
 }
 
+/// What the linker adds to a function's place where a call or a jump leads to its first byte: the four bytes it fills in lie before the next instruction.
+const TO_FIRST_BYTE: i64 = -4;
 /// Instructions that end a way.
 const ENDS: [&str; 3] = ["ud2", "hlt", "int3"];
-/// Instructions that move the stack pointer or leave the function otherwise than by push, pop, call, jmp and ret.
-const STRANGE: [&str; 17] = [
-    "leave", "enter", "pushf", "pushfq", "popf", "popfq", "pusha", "popa", "iret", "iretq",
-    "syscall", "sysenter", "int", "lcall", "ljmp", "lret", "xbegin",
+/// How instructions begin that move the stack pointer or leave the function. Of these only `push`, `pop`, `call`, `ret` and jumps are followed.
+const MOVING: [&str; 15] = [
+    "push", "pop", "call", "ret", "leave", "enter", "iret", "sys", "int", "lcall", "ljmp", "lret",
+    "loop", "xbegin", "(",
 ];
+/// Instructions that begin so and do neither.
+const HARMLESS: [&str; 2] = ["popcnt", "int3"];
 /// The stack pointer by all its names.
 const POINTER: [&str; 4] = ["%rsp", "%esp", "%sp", "%spl"];
 
@@ -47,11 +51,16 @@ fn grows(one: &Instruction) -> Result<i64, String> {
         ("mov", ["%rsp", to]) if *to != "%rbp" && to.starts_with("%r") && !POINTER.contains(to) => {
             Ok(0)
         }
-        (name, _) if named || STRANGE.contains(&name) => {
+        (name, _) if named || moves(name) => {
             Err("the stack pointer is moved in a way that is not known".to_string())
         }
         _ => Ok(0),
     }
+}
+
+/// Whether an instruction of this name moves the stack pointer or leaves the function.
+fn moves(name: &str) -> bool {
+    MOVING.iter().any(|one| name.starts_with(one)) && !HARMLESS.contains(&name)
 }
 
 /// How far from the stack pointer an operand in memory begins, if it is named by it.
@@ -109,6 +118,9 @@ impl Uses {
                 depth
             };
             let to = one.relocation.as_ref().ok_or("a call through a pointer")?;
+            if to.addend != TO_FIRST_BYTE {
+                return Err("a call of a place inside a function".to_string());
+            }
             if jumps && depth != 0 {
                 return Err("another function is jumped to from inside a frame".to_string());
             }
@@ -124,7 +136,7 @@ impl Uses {
         if jumps {
             let operand = one.operands.first().ok_or("a jump to nowhere")?;
             let targets: Vec<u64> = match operand.strip_prefix('*') {
-                Some(_) if function.table_targets.is_empty() => {
+                Some(_) if function.tables == 0 => {
                     return Err("a jump through a pointer".to_string())
                 }
                 Some(_) => function.table_targets.iter().copied().collect(),
@@ -137,7 +149,7 @@ impl Uses {
                 targets,
             });
         }
-        if name == "ret" {
+        if name == "ret" && one.operands.is_empty() {
             return match depth {
                 0 => Ok(Next {
                     depth,
@@ -160,6 +172,35 @@ impl Uses {
     }
 }
 
+/// Refuses what following the ways would not show: more jumps through pointers than the function has tables, so that one may lead out of it; and a
+/// place below a copy of the stack pointer.
+fn seen_at_once(function: &Function) -> Result<(), String> {
+    let through = function
+        .instructions
+        .iter()
+        .filter(|one| one.mnemonic == "jmp" && one.operands.iter().any(|to| to.starts_with('*')));
+    if through.count() > function.tables {
+        return Err("a jump through a pointer".to_string());
+    }
+    for copy in &function.instructions {
+        let register = match (copy.mnemonic.as_str(), &copy.operands[..]) {
+            ("mov", [from, to]) if from == "%rsp" => to,
+            _ => continue,
+        };
+        let below = |operand: &String| {
+            operand.starts_with('-') && operand.contains(&format!("({}", register))
+        };
+        if function
+            .instructions
+            .iter()
+            .any(|one| one.operands.iter().any(below))
+        {
+            return Err("a place below a copy of the stack pointer".to_string());
+        }
+    }
+    Ok(())
+}
+
 /// Whether an instruction only fills the space between others.
 fn fills(one: &Instruction) -> bool {
     one.mnemonic.starts_with("nop")
@@ -175,6 +216,7 @@ pub fn uses(function: &Function) -> Result<Uses, String> {
         .enumerate()
         .map(|(index, one)| (one.at, index))
         .collect();
+    seen_at_once(function)?;
     let mut found = Uses::default();
     let mut depths: Vec<Option<i64>> = vec![None; function.instructions.len()];
     let mut ahead = vec![(0, 0)];

@@ -22,7 +22,8 @@ pub struct Instruction {
 #[derive(Debug, Default)]
 pub struct Function {
     pub instructions: Vec<Instruction>,
-    /// Where its jump tables lead, all of them together.
+    /// Its jump tables, and where they lead, all of them together.
+    pub tables: usize,
     pub table_targets: BTreeSet<u64>,
 }
 
@@ -174,7 +175,8 @@ pub fn read(text: &str) -> Result<Library, String> {
     Ok(library)
 }
 
-/// A line of the symbol table: flags, section, size and name; `*UND*` is what the library lacks, `g` and `F` a public function.
+/// A line of the symbol table: place, flags, section, size and name; `*UND*` is what the library lacks, `l` stands for a local symbol, and code that is
+/// not local is public.
 fn symbol(line: &str, library: &mut Library) {
     let words: Vec<&str> = line.split_whitespace().collect();
     let name = match words.last() {
@@ -183,7 +185,7 @@ fn symbol(line: &str, library: &mut Library) {
     };
     if words.contains(&"*UND*") {
         library.outside.push(name);
-    } else if words[1] == "g" && words.contains(&"F") {
+    } else if words[1] != "l" && words.iter().any(|word| word.starts_with(".text")) {
         library.public.push(name);
     }
 }
@@ -203,7 +205,13 @@ fn tie(
                 let behind = function
                     .instructions
                     .partition_point(|one| one.at <= relocation.offset);
-                function.instructions[behind - 1].relocation = Some(relocation.clone());
+                let one = &mut function.instructions[behind - 1];
+                if one.relocation.replace(relocation.clone()).is_some() {
+                    return Err(format!(
+                        "{} at {:x}: two places to fill in",
+                        section, one.at
+                    ));
+                }
             }
             continue;
         }
@@ -224,12 +232,12 @@ fn tie(
                 start.ok_or_else(|| format!("{}: a table that the code does not name", name))?;
             // Each entry is the target's distance from its table's first byte.
             let target = relocation.addend - (relocation.offset - start) as i64;
-            library
+            let function = library
                 .functions
                 .get_mut(name)
-                .expect("it is one of the names")
-                .table_targets
-                .insert(target as u64);
+                .expect("it is one of the names");
+            function.tables = starts.len();
+            function.table_targets.insert(target as u64);
         }
     }
     Ok(())

@@ -3,7 +3,8 @@
 use crate::listing;
 use crate::report;
 
-/// A library of public functions, each a name and its lines of code, one byte apart; `=> X` behind a line is what the linker fills in there.
+/// A library of public functions, each a name and its lines of code, one byte apart; `=> X` behind a line is what the linker fills in there, less 4 unless
+/// X says what is added.
 fn library(functions: &[(&str, &str)], more: &str) -> String {
     let mut symbols = String::from("SYMBOL TABLE:\n");
     let mut relocations = String::new();
@@ -22,10 +23,12 @@ fn library(functions: &[(&str, &str)], more: &str) -> String {
             let (text, filled) = line.split_once(" => ").unwrap_or((line, ""));
             code += &format!("   {:x}:\t{}\n", at, text);
             if !filled.is_empty() {
-                relocations += &format!(
-                    "{:016x} R_X86_64_PLT32    {}-0x0000000000000004\n",
-                    at, filled
-                );
+                let addend = if filled.contains("+0x") {
+                    ""
+                } else {
+                    "-0x0000000000000004"
+                };
+                relocations += &format!("{:016x} R_X86_64_PLT32    {}{}\n", at, filled, addend);
             }
         }
     }
@@ -126,6 +129,13 @@ fn a_jump_by_a_table_stays_in_its_function() {
         .expect_err("it leads out")
         .contains("where no instruction begins"));
     refused(&[a], "a jump through a pointer");
+    let out = (
+        "a",
+        "lea    0x0(%rip),%rcx        # 8 => .rodata.a; jmp    *%rax; jmp    *%rbx; ret; ret; ret",
+    );
+    assert!(lines(&library(&[out], &entries(3, 5)))
+        .expect_err("one leads out")
+        .contains("a jump through a pointer"));
 }
 
 #[test]
@@ -192,6 +202,27 @@ fn what_is_not_understood_is_refused() {
     refused(
         &[("a", "mov    (%rsp),%rax; ret")],
         "the return address is touched",
+    );
+}
+
+#[test]
+fn what_leaves_unseen_is_refused() {
+    let b = ("b", "ret; ret");
+    refused(
+        &[("a", "call   1 <a+0x1> => .text.b+0x1; ret"), b],
+        "inside a function",
+    );
+    refused(&[("a", "ret    $0x8")], "in a way that is not known");
+    refused(&[("a", "loop   0 <a>; ret")], "in a way that is not known");
+    refused(&[("a", "pushfq; popfq; ret")], "in a way that is not known");
+    refused(&[("a", "(bad); ret")], "in a way that is not known");
+    refused(
+        &[("a", "mov    %rsp,%rax; mov    %rbx,-0x8(%rax); ret")],
+        "below a copy",
+    );
+    takes(
+        &[("a", "mov    %rsp,%rax; popcnt %rax,%rbx; ret")],
+        "a 8 0 a 8",
     );
 }
 
