@@ -28,6 +28,7 @@ if [ "$(uname -m)" = x86_64 ]; then
         local missing=()
         command -v cargo >/dev/null || missing+=(cargo rustc)
         command -v cc >/dev/null || missing+=(gcc libc6-dev)
+        command -v objdump >/dev/null || missing+=(binutils)
         [ ${#missing[@]} -eq 0 ] || { apt-get update -qq && x86_install "${missing[@]}"; }
     }
     x86_cargo() { cargo "$@"; }

@@ -19,6 +19,9 @@ for patch in "$@"; do
     elif (cd "$copy" && bash tests/stack.sh target/staticlib/libch11.a) >"$copy/out" 2>&1; then
         echo "$name: NOT REFUSED"
         failed=1
+    elif ! grep -q '^refused: ' "$patch"; then
+        echo "$name: DOES NOT SAY WHY IT IS REFUSED"
+        failed=1
     else
         while read -r what; do
             if grep -qF -- "$what" "$copy/out"; then

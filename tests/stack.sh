@@ -18,12 +18,16 @@ fault() { echo "stack: $*" >&2 && faults=1; }
 x86_tools
 [ $# -gt 0 ] || rt staticlib ch11 >"$room/log" 2>&1 </dev/null || { cat "$room/log" >&2; exit 1; }
 
-# The source: what is lent is read where it is. (The compiler takes small copies out again, so that its code would not show them.)
-arrays=$(grep -nE '\[[^]]*;[^]]*\]|= *\[' crates/*/src/*.rt | grep -vE '^crates/(ch11|listing|promises)/|:[0-9]+:(pub )?const ' || true)
+# The source: what is lent is read where it is. (The compiler takes small copies out again, so that its code would not show them.) With the types of
+# slices left out, an array shows by a semicolon in brackets, or by a bracket that follows no name; a constant of at most 8 bytes is none.
+brackets=$(grep -rn --include='*.rt' '\[' crates) || fault "the source was not searched"
+arrays=$(sed -E 's/\[(u(8|16|32|64|size))?\]//g' <<<"$brackets" | grep -E '\[[^]]*;|[(,&:=] *\[' |
+    grep -vE '^crates/(ch11|listing|promises)/|:const [A-Z]+: \[u8; [1-8]\] = ' || true)
 [ -z "$arrays" ] || fault "a function below the C interface has an array of its own: $arrays"
 
 # The code: name, bytes, arguments and deepest way of each call.
-{ $x86_objdump -tr "$library" && $x86_objdump -dw --no-show-raw-insn "$library"; } >"$room/code"
+$x86_objdump -tr "$library" >"$room/code"
+$x86_objdump -dw --no-show-raw-insn "$library" >>"$room/code"
 x86_host_cargo run --release --quiet --manifest-path rust/Cargo.toml -p stack -- $limit <"$room/code" >"$room/worked" || fault "it was not worked out"
 
 # The stack itself: name and bytes of each call.
@@ -37,5 +41,6 @@ while read -r call bytes arguments way; do
     echo "| \`$call\` | $bytes | ${seen:-none} | $arguments | ${way// > /, then } |"
 done <"$room/worked" >"$room/table"
 cat "$room/table"
-grep '^| `ch11_' <(sed -n '/^## Stack/,/^## /p' docs/CALLS.md) | cmp -s - "$room/table" || fault "docs/CALLS.md has another table"
+# The rows below the section's heading and its table's two first lines.
+sed -n '/^## Stack$/,/^## [^S]/p' docs/CALLS.md | grep '^|' | tail -n +3 | cmp -s - "$room/table" || fault "docs/CALLS.md has another table"
 exit $faults

@@ -2,7 +2,8 @@
  *
  *     painted RECORDING..    prints for each call its name and the most bytes of stack that it wrote, its return address among them
  *
- * Fails where a call leaves more than 8 bytes in a row of a lent slice on its stack: the longest field has 8, so more would be a copy. */
+ * Fails where a call leaves 12 bytes in a row of a lent slice on its stack: the longest field has 8, and beside it may stand a number that looks
+ * like what follows the field, but hardly four bytes of it. */
 #include <stddef.h>
 #include <stdint.h>
 #include <stdio.h>
@@ -13,7 +14,7 @@
 
 /* ---- a stack of our own */
 
-enum { STACK = 8192, PUSHED = 4, PAINTS = 2, LONGEST_FIELD = 8 };
+enum { STACK = 4096, PUSHED = 4, PAINTS = 2 };
 static _Alignas(16) uint8_t stack[STACK];
 
 /* Calls a function with six words in registers and four behind them in memory, its stack pointer at `top` less those four. The registers
@@ -63,7 +64,7 @@ struct lent {
     size_t length;
 };
 
-enum { RUN = LONGEST_FIELD + 1, TELLING = 6 };
+enum { RUN = 12, TELLING = 9 };
 
 /* Whether a run of bytes is hardly there by chance: few zeros, which small numbers have too, and not one byte over and over. */
 static int tells(const uint8_t *run)
@@ -74,13 +75,14 @@ static int tells(const uint8_t *run)
     return others >= TELLING && memcmp(run, run + 1, RUN - 1) != 0;
 }
 
-/* Whether more than LONGEST_FIELD bytes in a row of a lent slice lie between two places of the stack. */
-static int copied(struct lent slice, const uint8_t *from, const uint8_t *to)
+/* Whether RUN bytes in a row of a lent slice stand on the stack, from a place up. */
+static int copied(struct lent slice, const uint8_t *from)
 {
-    for (const uint8_t *run = slice.bytes; run + RUN <= slice.bytes + slice.length; run++) {
+    for (size_t at = 0; at + RUN <= slice.length; at++) {
+        const uint8_t *run = slice.bytes + at;
         if (!tells(run))
             continue;
-        for (const uint8_t *place = from; place + RUN <= to; place++)
+        for (const uint8_t *place = from; place + RUN <= stack + STACK; place++)
             if (*place == *run && memcmp(run, place, RUN) == 0)
                 return 1;
     }
@@ -109,7 +111,7 @@ static uint64_t run(struct call *call, const uint64_t words[6 + PUSHED], struct 
             lowest++;
         if (call->deepest < (size_t)(entry - lowest))
             call->deepest = (size_t)(entry - lowest);
-        seen += copied(first, lowest, entry) || copied(second, lowest, entry);
+        seen += copied(first, lowest) || copied(second, lowest);
     }
     call->copies += seen == PAINTS;
     return answer;
@@ -132,9 +134,9 @@ static uint32_t starts[ROOM], lengths[ROOM];
 /* Every reader on a window; the packet at its start, if there is one, is left in `packet`. */
 static uint64_t read_all(struct lent buf, size_t start, size_t end, struct ch11_packet *packet)
 {
-    struct ch11_list list;
-    struct ch11_message message;
-    struct ch11_recording recording;
+    static struct ch11_list list;
+    static struct ch11_message message;
+    static struct ch11_recording recording;
     for (uint64_t number = 0; number < 3; number++)
         run(&calls[MESSAGE], WORDS(AT(buf.bytes), buf.length, start, end, number, AT(&message)), buf, nothing);
     for (size_t room = 0; room <= ROOM; room += ROOM)
@@ -147,7 +149,7 @@ static uint64_t read_all(struct lent buf, size_t start, size_t end, struct ch11_
 static void write_again(struct lent buf, const struct ch11_packet *packet)
 {
     static uint8_t out[MOST];
-    struct ch11_written written;
+    static struct ch11_written written;
     struct lent body = {buf.bytes + packet->body.at, packet->body.length};
     struct lent output = {out, packet->length};
     for (size_t less = 0; less < 2; less++)
@@ -158,7 +160,7 @@ static void write_again(struct lent buf, const struct ch11_packet *packet)
 static void read_recording(uint8_t *bytes, size_t length)
 {
     struct lent buf = {bytes, length};
-    struct ch11_packet packet, other;
+    static struct ch11_packet packet, other;
     for (size_t start = 0; start <= length; start++) {
         if (read_all(buf, start, length, &packet) != CH11_NONE)
             continue;
@@ -180,7 +182,7 @@ static void build_bodies(void)
     for (size_t at = 0; at < ROOM; at++)
         bytes[at] = (uint8_t)(0x80 + 37 * at);
     for (uint64_t choice = 0; choice < 2 * 6; choice++) {
-        struct ch11_draft draft = {0};
+        static struct ch11_draft draft;
         uint64_t type = choice % 2 ? 0x50 : 0x30, rule = choice / 2;
         run(&calls[OPEN], WORDS(AT(&draft), AT(buf), MOST, type, rule), made, nothing);
         for (size_t n = 0; n <= 2 * ROOM; n++)
@@ -193,47 +195,66 @@ static void build_bodies(void)
 
 static uint64_t copying_sum(const uint8_t *header)
 {
-    volatile uint8_t copy[24];
+    uint8_t copy[24];
     uint64_t sum = 0;
-    for (size_t at = 0; at < sizeof copy; at++)
-        copy[at] = header[at];
+    memcpy(copy, header, sizeof copy);
+    __asm__ volatile("" : : "r"(copy) : "memory"); /* so that the compiler leaves the copy where it is */
     for (size_t at = 0; at < 22; at += 2)
         sum += copy[at] + 256u * copy[at + 1];
     return sum % 65536;
 }
 
-static int copy_is_seen(struct lent buf)
+static int copy_is_seen(void)
 {
     struct call copying = CALL(copying_sum);
-    run(&copying, WORDS(AT(buf.bytes)), buf, nothing);
-    return copying.copies > 0 && copying.deepest > 24;
+    struct lent header = {M, 24};
+    return run(&copying, WORDS(AT(M)), header, nothing) == 0x1BC2 && copying.copies > 0 && copying.deepest > 24;
 }
 
-/* Reads a recording of so many bytes and more, and sees to it that a copy of its first header would be seen. */
-static int try_recording(uint8_t *bytes, size_t length)
+/* ---- the recordings */
+
+/* A packet with hardly a zero in its headers, its block's head and its block; gives its length, 0 where it could not be made. */
+static size_t make_packet(uint8_t *out, size_t room)
 {
-    read_recording(bytes, length);
-    if (copy_is_seen((struct lent){bytes, length}))
+    enum { BLOCK = 0x123, EXTENDED = 4, ABSOLUTE_EXTENDED_SUM_32 = 0xCB };
+    static uint8_t body[MOST], bytes[BLOCK];
+    static struct ch11_written written;
+    const uint64_t time = 0x1122334455667788;
+    const struct ch11_fields fields = {0x5678, 6, 0xC9, ABSOLUTE_EXTENDED_SUM_32, 0x50, time / 100 % ((uint64_t)1 << 48), time};
+    struct ch11_draft draft = {0};
+    for (size_t at = 0; at < BLOCK; at++)
+        bytes[at] = (uint8_t)(1 + 37 * at % 255);
+    if (ch11_open(&draft, body, MOST, 0x50, EXTENDED) || ch11_add(&draft, body, MOST, time + 1, 0x9ABC, bytes, BLOCK) || ch11_close(&draft, body, MOST))
         return 0;
-    fprintf(stderr, "a header sum that copies was not told from one that does not\n");
-    return 1;
+    return ch11_write_packet(&fields, body, draft.used, out, room, &written) ? 0 : written.length;
+}
+
+/* The packets of the tests and one that is made here; gives how many bytes they have. */
+static size_t make_recording(uint8_t *bytes, size_t room)
+{
+    memcpy(bytes, M, sizeof M);
+    memcpy(bytes + sizeof M, L, sizeof L);
+    size_t made = make_packet(bytes + sizeof M + sizeof L, room - sizeof M - sizeof L);
+    return made == 0 ? 0 : sizeof M + sizeof L + made;
 }
 
 int main(int count, char **names)
 {
     static uint8_t bytes[MOST];
-    memcpy(bytes, M, sizeof M);
-    memcpy(bytes + sizeof M, L, sizeof L);
-    int wrong = try_recording(bytes, sizeof M + sizeof L);
+    size_t length = make_recording(bytes, MOST);
+    int wrong = length == 0 || !copy_is_seen();
+    if (wrong)
+        fprintf(stderr, "no packet was made, or a header sum that copies was not told from one that does not\n");
+    read_recording(bytes, length);
     for (int name = 1; name < count; name++) {
         FILE *file = fopen(names[name], "rb");
-        size_t length = file ? fread(bytes, 1, MOST, file) : 0;
-        if (length < 24) {
+        length = file ? fread(bytes, 1, MOST, file) : 0;
+        if (length == 0) {
             fprintf(stderr, "%s: no recording there\n", names[name]);
             return 2;
         }
         fclose(file);
-        wrong |= try_recording(bytes, length);
+        read_recording(bytes, length);
     }
     build_bodies();
     for (size_t one = 0; one < CALLS; one++) {

@@ -22,8 +22,8 @@ pub struct Instruction {
 #[derive(Debug, Default)]
 pub struct Function {
     pub instructions: Vec<Instruction>,
-    /// Its jump tables, and where they lead, all of them together.
-    pub tables: usize,
+    /// The section of its jump tables, and where they lead, all of them together.
+    pub tables: String,
     pub table_targets: BTreeSet<u64>,
 }
 
@@ -95,10 +95,11 @@ pub fn number(text: &str) -> Option<i64> {
 
 /// One line of relocations: `000000000000003e R_X86_64_PLT32    .text.frame::table::frame_refusal-0x0000000000000004`.
 fn relocation(line: &str) -> Option<Relocation> {
-    let mut words = line.split_whitespace();
-    let offset = u64::from_str_radix(words.next()?, 16).ok()?;
-    let _kind = words.next()?.strip_prefix("R_X86_64_")?;
-    let value = words.next()?;
+    let words: Vec<&str> = line.split_whitespace().collect();
+    let (offset, value) = match words[..] {
+        [offset, kind, value] if kind.starts_with("R_X86_64_") => (offset, value),
+        _ => return None,
+    };
     let (names, addend) = match value.rfind("-0x").or_else(|| value.rfind("+0x")) {
         Some(sign) => (
             &value[..sign],
@@ -107,7 +108,7 @@ fn relocation(line: &str) -> Option<Relocation> {
         None => (value, 0),
     };
     Some(Relocation {
-        offset,
+        offset: u64::from_str_radix(offset, 16).ok()?,
         names: names.to_string(),
         addend,
     })
@@ -138,89 +139,128 @@ fn opened(line: &str) -> Option<Part> {
     Some(Part::Code(section.trim_end_matches(':').to_string()))
 }
 
-/// Reads the whole text. A line of code or relocations that is not understood is an error, and so is code outside `.text.NAME`.
+/// Reads the whole text, of one object file. A line that is not understood is an error, and so is code outside `.text.NAME`.
 pub fn read(text: &str) -> Result<Library, String> {
     let mut library = Library::default();
     let mut relocations: BTreeMap<String, Vec<Relocation>> = BTreeMap::new();
     let mut part = Part::Ahead;
+    let mut tables_of_symbols = 0;
     for line in text.lines() {
         if let Some(next) = opened(line) {
+            match &next {
+                Part::Symbols => tables_of_symbols += 1,
+                Part::Code(section) => open_function(section, &mut library)?,
+                _ => (),
+            }
             part = next;
             continue;
         }
+        let strange = || format!("not understood: {}", line);
         match &part {
-            Part::Symbols => symbol(line, &mut library),
+            Part::Symbols if line.contains('\t') => {
+                symbol(line, &mut library).ok_or_else(strange)?;
+            }
             Part::Relocations(section) if line.contains(" R_") => {
-                let found = relocation(line)
-                    .ok_or_else(|| format!("a relocation that is not understood: {}", line))?;
+                let found = relocation(line).ok_or_else(strange)?;
                 relocations.entry(section.clone()).or_default().push(found);
             }
             Part::Code(section) if line.contains(":\t") => {
-                let name = section
-                    .strip_prefix(".text.")
-                    .ok_or_else(|| format!("code in {}", section))?;
-                let found = instruction(line)
-                    .ok_or_else(|| format!("{}: not understood: {}", name, line))?;
-                library
-                    .functions
-                    .entry(name.to_string())
-                    .or_default()
-                    .instructions
-                    .push(found);
+                let found = instruction(line).ok_or_else(strange)?;
+                let function = library.functions.get_mut(function_named(section));
+                function.expect("it is open").instructions.push(found);
             }
             _ => (),
         }
     }
-    tie(&mut library, &relocations)?;
+    if tables_of_symbols > 1 {
+        return Err("it is more than one object file".to_string());
+    }
+    tie_code(&mut library, &relocations)?;
+    tie_tables(&mut library, &relocations)?;
     Ok(library)
 }
 
-/// A line of the symbol table: place, flags, section, size and name; `*UND*` is what the library lacks, `l` stands for a local symbol, and code that is
-/// not local is public.
-fn symbol(line: &str, library: &mut Library) {
-    let words: Vec<&str> = line.split_whitespace().collect();
-    let name = match words.last() {
-        Some(name) if words.len() > 3 => name.to_string(),
-        _ => return,
+/// Begins the function whose section this is.
+fn open_function(section: &str, library: &mut Library) -> Result<(), String> {
+    let name = section
+        .strip_prefix(".text.")
+        .ok_or_else(|| format!("code in {}", section))?;
+    let function = Function {
+        tables: format!(".rodata.{}", name),
+        ..Function::default()
     };
-    if words.contains(&"*UND*") {
-        library.outside.push(name);
-    } else if words[1] != "l" && words.iter().any(|word| word.starts_with(".text")) {
-        library.public.push(name);
+    match library.functions.insert(name.to_string(), function) {
+        None => Ok(()),
+        Some(_) => Err(format!("two functions {}", name)),
     }
 }
 
-/// Gives each relocation to the instruction it stands in, and each jump table to its function.
-fn tie(
+/// A line of the symbol table: place, flags and section, a tab, size and name. `*UND*` is what the library lacks. Code that is not local (`l`) is
+/// public, and must be a plain function (`g` and `F`) at the first byte of its own section.
+fn symbol(line: &str, library: &mut Library) -> Option<()> {
+    let (left, right) = line.split_once('\t')?;
+    let left: Vec<&str> = left.split_whitespace().collect();
+    let right: Vec<&str> = right.split_whitespace().collect();
+    let section = *left.last()?;
+    if section == "*UND*" {
+        library.outside.push(right[1..].join(" "));
+    } else if section.starts_with(".text") && left[1] != "l" {
+        let at = u64::from_str_radix(left[0], 16).ok()?;
+        match (&left[1..], &right[..]) {
+            (["g", "F", _], [_, name]) if at == 0 && section == format!(".text.{}", name) => {
+                library.public.push(name.to_string());
+            }
+            _ => return None,
+        }
+    }
+    Some(())
+}
+
+/// Gives each relocation of code to the instruction it stands in. A function is named there by calls and jumps alone.
+fn tie_code(
     library: &mut Library,
     relocations: &BTreeMap<String, Vec<Relocation>>,
 ) -> Result<(), String> {
     let names: BTreeSet<String> = library.functions.keys().cloned().collect();
-    for (section, found) in relocations {
-        if let Some(function) = section
-            .strip_prefix(".text.")
-            .and_then(|name| library.functions.get_mut(name))
-        {
-            for relocation in found {
-                let behind = function
-                    .instructions
-                    .partition_point(|one| one.at <= relocation.offset);
-                let one = &mut function.instructions[behind - 1];
-                if one.relocation.replace(relocation.clone()).is_some() {
-                    return Err(format!(
-                        "{} at {:x}: two places to fill in",
-                        section, one.at
-                    ));
-                }
+    for (name, function) in &mut library.functions {
+        let found = relocations.get(&format!(".text.{}", name));
+        for relocation in found.map_or(&[][..], |found| &found[..]) {
+            let behind = function
+                .instructions
+                .partition_point(|one| one.at <= relocation.offset);
+            let one = &mut function.instructions[behind - 1];
+            let leads = one.mnemonic == "call" || one.mnemonic.starts_with('j');
+            let function = names.contains(function_named(&relocation.names));
+            if (function || relocation.names.starts_with(".text")) && !leads {
+                return Err(format!(
+                    "{} at {:x}: the address of a function is taken",
+                    name, one.at
+                ));
             }
-            continue;
+            if one.relocation.replace(relocation.clone()).is_some() {
+                return Err(format!("{} at {:x}: two places to fill in", name, one.at));
+            }
         }
-        for relocation in found
-            .iter()
-            .filter(|one| names.contains(function_named(&one.names)))
-        {
+    }
+    Ok(())
+}
+
+/// Gives each jump table to its function. Nothing else outside the code names a function.
+fn tie_tables(
+    library: &mut Library,
+    relocations: &BTreeMap<String, Vec<Relocation>>,
+) -> Result<(), String> {
+    let outside_code = relocations
+        .iter()
+        .filter(|(section, _)| !section.starts_with(".text."));
+    for (section, found) in outside_code {
+        for relocation in found {
             let name = function_named(&relocation.names);
-            if section.strip_prefix(".rodata.") != Some(name) {
+            let function = match library.functions.get_mut(name) {
+                Some(function) => function,
+                None => continue,
+            };
+            if *section != function.tables {
                 return Err(format!("{} holds a pointer to {}", section, name));
             }
             let starts = table_starts(name, relocations);
@@ -232,11 +272,6 @@ fn tie(
                 start.ok_or_else(|| format!("{}: a table that the code does not name", name))?;
             // Each entry is the target's distance from its table's first byte.
             let target = relocation.addend - (relocation.offset - start) as i64;
-            let function = library
-                .functions
-                .get_mut(name)
-                .expect("it is one of the names");
-            function.tables = starts.len();
             function.table_targets.insert(target as u64);
         }
     }

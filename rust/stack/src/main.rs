@@ -1,6 +1,6 @@
 //! Works out from a library's compiled x86-64 code how deep each public call goes into the stack with everything that it calls:
 //! `stack LIMIT` reads what objdump prints (listing.rs) and prints a line for each public call: its name, its bytes of stack from the return
-//! address down, the bytes of its arguments in memory above that, and the functions on its deepest way, each with its own bytes. It fails
+//! address down, the bytes of arguments that it reads in memory above that, and the functions on its deepest way, each with its own bytes. It fails
 //! where a call with its arguments passes LIMIT, where a function can call itself, where anything is called that is not in the library or
 //! through a pointer, and where it can't follow the code.
 
@@ -40,15 +40,22 @@ fn deepest(
         vec![(name.to_string(), uses.deepest + RETURN)],
     );
     above.push(name.to_string());
-    for (to, begins) in &uses.calls {
-        let (more, way) = deepest(to, all, above)?;
-        if begins + more > found.0 {
-            let own = vec![(name.to_string(), *begins)];
-            found = (begins + more, own.into_iter().chain(way).collect());
+    for call in &uses.calls {
+        let (more, way) = deepest(&call.to, all, above)?;
+        if call.begins + more > found.0 {
+            let own = vec![(name.to_string(), call.begins)];
+            found = (call.begins + more, own.into_iter().chain(way).collect());
         }
     }
     above.pop();
     Ok(found)
+}
+
+/// The bytes of arguments in memory that a function reads, or one that it jumps to as the last thing it does.
+fn arguments(name: &str, all: &BTreeMap<String, Uses>) -> u64 {
+    let jumped = all[name].calls.iter().filter(|call| call.jumped);
+    let handed_on = jumped.map(|call| arguments(&call.to, all)).max();
+    all[name].arguments.max(handed_on.unwrap_or(0))
 }
 
 /// A line for each public call, in the order of their names.
@@ -71,7 +78,7 @@ fn report(library: &Library, limit: u64) -> Result<Vec<String>, String> {
     let mut lines = Vec::new();
     for name in public {
         let (below, way) = deepest(&name, &all, &mut Vec::new())?;
-        let (bytes, arguments) = (below + RETURN, all[&name].arguments);
+        let (bytes, arguments) = (below + RETURN, arguments(&name, &all));
         if bytes + arguments > limit {
             return Err(format!(
                 "{} takes {} bytes and {} for arguments, over {}",

@@ -112,30 +112,63 @@ fn the_deepest_way_is_taken() {
     );
 }
 
+/// A jump by a table of two targets, and the relocations of the table.
+const BY_TABLE: &str = "push   %rbx; lea    0x0(%rip),%rcx        # 8 => .rodata.a; movslq (%rcx,%rdi,4),%rax; add    %rcx,%rax; jmp    *%rax; pop    %rbx; ret; pop    %rbx; ret";
+fn entries(first: u64, second: u64) -> String {
+    let line = |offset: u64, target: u64| {
+        format!(
+            "{:016x} R_X86_64_PC32     .text.a+0x{:x}\n",
+            offset,
+            target + offset
+        )
+    };
+    format!(
+        "RELOCATION RECORDS FOR [.rodata.a]:\n{}{}",
+        line(0, first),
+        line(4, second)
+    )
+}
+
 #[test]
 fn a_jump_by_a_table_stays_in_its_function() {
-    let a = ("a", "push   %rbx; lea    0x0(%rip),%rcx        # 8 => .rodata.a; jmp    *%rax; pop    %rbx; ret; pop    %rbx; ret");
-    let entries = |first: u64, second: u64| {
-        format!("RELOCATION RECORDS FOR [.rodata.a]:\n{:016x} R_X86_64_PC32     .text.a+0x{:x}\n{:016x} R_X86_64_PC32     .text.a+0x{:x}\n", 0, first, 4, second + 4)
+    let with = |code: &str, first: u64, second: u64| {
+        lines(&library(&[("a", code)], &entries(first, second)))
     };
-    assert_eq!(
-        lines(&library(&[a], &entries(3, 5))),
-        Ok(vec!["a 16 0 a 16".to_string()])
+    assert_eq!(with(BY_TABLE, 5, 7), Ok(vec!["a 16 0 a 16".to_string()]));
+    let refused = |code: &str, first: u64, second: u64, wanted: &str| {
+        let what = with(code, first, second).expect_err("it was not refused");
+        assert!(what.contains(wanted), "{}", what);
+    };
+    refused(BY_TABLE, 5, 5, "no way leads there");
+    refused(BY_TABLE, 5, 11, "where no instruction begins");
+    // Not by the table: the target is another, is not added up, is read from elsewhere; or a second jump.
+    refused(
+        &BY_TABLE.replace("*%rax", "*%rbx"),
+        5,
+        7,
+        "a jump through a pointer",
     );
-    assert!(lines(&library(&[a], &entries(3, 3)))
-        .expect_err("code is left")
-        .contains("no way leads there"));
-    assert!(lines(&library(&[a], &entries(3, 9)))
-        .expect_err("it leads out")
-        .contains("where no instruction begins"));
-    refused(&[a], "a jump through a pointer");
-    let out = (
-        "a",
-        "lea    0x0(%rip),%rcx        # 8 => .rodata.a; jmp    *%rax; jmp    *%rbx; ret; ret; ret",
+    refused(
+        &BY_TABLE.replace("add    %rcx,%rax", "add    %rdx,%rax"),
+        5,
+        7,
+        "a jump through a pointer",
     );
-    assert!(lines(&library(&[out], &entries(3, 5)))
-        .expect_err("one leads out")
-        .contains("a jump through a pointer"));
+    refused(
+        &BY_TABLE.replace("(%rcx,", "(%rdx,"),
+        5,
+        7,
+        "a jump through a pointer",
+    );
+    refused(
+        &BY_TABLE.replace(
+            "pop    %rbx; ret; pop    %rbx; ret",
+            "pop    %rbx; jmp    *%rax; pop    %rbx; ret",
+        ),
+        5,
+        7,
+        "a jump through a pointer",
+    );
 }
 
 #[test]
@@ -212,18 +245,96 @@ fn what_leaves_unseen_is_refused() {
         &[("a", "call   1 <a+0x1> => .text.b+0x1; ret"), b],
         "inside a function",
     );
-    refused(&[("a", "ret    $0x8")], "in a way that is not known");
-    refused(&[("a", "loop   0 <a>; ret")], "in a way that is not known");
-    refused(&[("a", "pushfq; popfq; ret")], "in a way that is not known");
-    refused(&[("a", "(bad); ret")], "in a way that is not known");
     refused(
-        &[("a", "mov    %rsp,%rax; mov    %rbx,-0x8(%rax); ret")],
-        "below a copy",
+        &[("a", "call   *0x0(%rip)        # 6 => b; ret"), b],
+        "a call through a pointer",
     );
+    for strange in [
+        "ret    $0x8",
+        "loop   0 <a>",
+        "pushfq",
+        "pushw  %ax",
+        "(bad)",
+        "rex.W call 5 <a+0x5>",
+    ] {
+        refused(
+            &[("a", &format!("{}; ret", strange))],
+            "in a way that is not known",
+        );
+    }
+    takes(&[("a", "popcnt %rax,%rbx; ret")], "a 8 0 a 8");
+}
+
+#[test]
+fn what_an_address_of_the_stack_may_reach_is_counted() {
     takes(
-        &[("a", "mov    %rsp,%rax; popcnt %rax,%rbx; ret")],
-        "a 8 0 a 8",
+        &[("a", "lea    -0x8(%rsp),%rax; mov    %bl,-0x1(%rax); ret")],
+        "a 136 0 a 136",
     );
+    takes(&[("a", "mov    %rsp,%rax; ret")], "a 136 0 a 136");
+    takes(
+        &[(
+            "a",
+            "push   %rbx; mov    %bl,-0x8(%rsp,%rax,1); pop    %rbx; ret",
+        )],
+        "a 144 0 a 144",
+    );
+    // A function that calls another keeps nothing below its stack pointer.
+    let b = ("b", "ret");
+    takes(
+        &[
+            (
+                "a",
+                "push   %rbx; lea    (%rsp),%rdi; call   3 <a+0x3> => b; pop    %rbx; ret",
+            ),
+            b,
+        ],
+        "a 24 0 a 24",
+    );
+}
+
+#[test]
+fn arguments_of_unknown_size_are_refused() {
+    refused(
+        &[("a", "lea    0x8(%rsp),%rax; ret")],
+        "among the arguments",
+    );
+    refused(
+        &[("a", "mov    0x8(%rsp,%rdi,8),%rax; ret")],
+        "among the arguments",
+    );
+    takes(&[("a", "movups 0x8(%rsp),%xmm0; ret")], "a 8 16 a 8");
+    let b = ("b", "mov    0x10(%rsp),%rax; ret");
+    takes(
+        &[("a", "jmp    1 <a+0x1> => .text.b"), b],
+        "a 8 16 a 8",
+    );
+}
+
+#[test]
+fn symbols_that_are_not_plain_functions_are_refused() {
+    let with = |line: &str| lines(&library(&[("a", "ret")], line)).expect_err("it was not refused");
+    let size = "0000000000000001";
+    for line in [
+        "w    F .text.a",
+        "g   i   .text.a",
+        "g     F .text.b",
+        "g     O .text.a",
+    ] {
+        let text = format!("0000000000000000 {}\t{} a\n", line, size);
+        assert!(with(&text).contains("not understood"), "{}", line);
+    }
+    assert!(
+        with("0000000000000004 g     F .text.a\t0000000000000001 a\n").contains("not understood")
+    );
+    assert!(
+        with("0000000000000000 g     F .text.a\t0000000000000001 a b\n").contains("not understood")
+    );
+    assert!(with("SYMBOL TABLE:\n").contains("more than one object file"));
+    let twice = library(&[("a", "ret"), ("a", "ret")], "");
+    assert!(lines(&twice)
+        .expect_err("it was not refused")
+        .contains("two functions a"));
 }
 
 #[test]
