@@ -7,7 +7,7 @@
  * A reader looks at a window: the bytes buf[start] to buf[end - 1] of a buffer of len bytes. Nothing outside the window has a say,
  * also where the buffer holds older bytes behind the filled end. Every input is answered, any start and end too; a call never reads
  * or writes outside what it is lent, keeps nothing (so threads may call at the same time), allocates nothing and never fails otherwise
- * than by a refusal. It takes less than 1 KiB of stack, and the library needs no other, not even a C library.
+ * than by a refusal. It takes at most 1 KiB of stack, and the library needs no other, not even a C library.
  *
  * Every result is written into a struct of 64-bit numbers, which needs no filling beforehand, save the builder's. Each call returns the
  * refusal's number, 0 for none; the struct begins with the same number. On a refusal all other results are 0, but for the place, for

@@ -41,6 +41,6 @@ while read -r call bytes arguments way; do
     echo "| \`$call\` | $bytes | ${seen:-none} | $arguments | ${way// > /, then } |"
 done <"$room/worked" >"$room/table"
 cat "$room/table"
-# The rows below the section's heading and its table's two first lines.
-sed -n '/^## Stack$/,/^## [^S]/p' docs/CALLS.md | grep '^|' | tail -n +3 | cmp -s - "$room/table" || fault "docs/CALLS.md has another table"
+# The rows of the section's table, below its two first lines.
+awk '/^## / { inside = /^## Stack$/ } inside && /^[|]/ && ++row > 2' docs/CALLS.md | cmp -s - "$room/table" || fault "docs/CALLS.md has another table"
 exit $faults

@@ -174,7 +174,7 @@ static void read_recording(uint8_t *bytes, size_t length)
     }
 }
 
-/* Bodies of each type and rule, made of blocks of every length, from 0 on, to where the buffer has no more room. */
+/* Bodies of each type and rule, one that opening refuses too, made of blocks of every length, from 0 on, to where the buffer has no more room. */
 static void build_bodies(void)
 {
     static uint8_t buf[MOST], bytes[ROOM];
@@ -184,6 +184,7 @@ static void build_bodies(void)
     for (uint64_t choice = 0; choice < 2 * 6; choice++) {
         static struct ch11_draft draft;
         uint64_t type = choice % 2 ? 0x50 : 0x30, rule = choice / 2;
+        memset(&draft, 0, sizeof draft);
         run(&calls[OPEN], WORDS(AT(&draft), AT(buf), MOST, type, rule), made, nothing);
         for (size_t n = 0; n <= 2 * ROOM; n++)
             run(&calls[ADD], WORDS(AT(&draft), AT(buf), MOST, rule ? 0x0102030405 : 0, n % 7 ? 0x1234 : 0x12345, AT(bytes), n % ROOM), made, block);

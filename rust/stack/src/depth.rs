@@ -101,7 +101,7 @@ fn points(one: &Instruction) -> bool {
 }
 
 /// Whether the jump through a pointer at this place is by a table of the function:
-/// `lea TABLE(%rip),%B`, `movslq (%B,%I,4),%R`, `add %B,%R`, `jmp *%R`, one behind the other.
+/// `lea TABLE(%rip),%B`, `movslq (%B,%I,4),%R`, `add %B,%R`, `jmp *%R`, one behind the other, and no other way in between them.
 fn by_table(function: &Function, index: usize) -> bool {
     let (lea, load, add, jump) = match function.instructions.get(index.wrapping_sub(3)..=index) {
         Some([lea, load, add, jump]) => (lea, load, add, jump),
@@ -121,6 +121,17 @@ fn by_table(function: &Function, index: usize) -> bool {
         && names(add, "add")
         && add.operands == [base.clone(), target.clone()]
         && jump.operands == [format!("*{}", target)]
+        && ![load, add, jump]
+            .iter()
+            .any(|one| jumped_to(function, one.at))
+}
+
+/// Whether a jump of the function leads to this place.
+fn jumped_to(function: &Function, at: u64) -> bool {
+    let place = format!("{:x}", at);
+    let leads =
+        |one: &Instruction| one.mnemonic.starts_with('j') && one.operands.first() == Some(&place);
+    function.table_targets.contains(&at) || function.instructions.iter().any(leads)
 }
 
 /// Where an instruction goes on.

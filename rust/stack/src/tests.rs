@@ -141,34 +141,22 @@ fn a_jump_by_a_table_stays_in_its_function() {
     };
     refused(BY_TABLE, 5, 5, "no way leads there");
     refused(BY_TABLE, 5, 11, "where no instruction begins");
-    // Not by the table: the target is another, is not added up, is read from elsewhere; or a second jump.
-    refused(
-        &BY_TABLE.replace("*%rax", "*%rbx"),
-        5,
-        7,
-        "a jump through a pointer",
-    );
-    refused(
-        &BY_TABLE.replace("add    %rcx,%rax", "add    %rdx,%rax"),
-        5,
-        7,
-        "a jump through a pointer",
-    );
-    refused(
-        &BY_TABLE.replace("(%rcx,", "(%rdx,"),
-        5,
-        7,
-        "a jump through a pointer",
-    );
-    refused(
-        &BY_TABLE.replace(
-            "pop    %rbx; ret; pop    %rbx; ret",
-            "pop    %rbx; jmp    *%rax; pop    %rbx; ret",
-        ),
-        5,
-        7,
-        "a jump through a pointer",
-    );
+    // Not by the table: another target, another sum, another table, a second jump, another way in.
+    for (text, other) in [
+        ("*%rax", "*%rbx"),
+        ("add    %rcx,%rax", "add    %rdx,%rax"),
+        ("(%rcx,", "(%rdx,"),
+        ("%rbx; ret; pop", "%rbx; jmp    *%rax; pop"),
+        ("pop    %rbx; ret; pop", "jmp    4 <a+0x4>; ret; pop"),
+    ] {
+        assert!(BY_TABLE.contains(text));
+        refused(
+            &BY_TABLE.replace(text, other),
+            5,
+            7,
+            "a jump through a pointer",
+        );
+    }
 }
 
 #[test]
@@ -305,10 +293,7 @@ fn arguments_of_unknown_size_are_refused() {
     );
     takes(&[("a", "movups 0x8(%rsp),%xmm0; ret")], "a 8 16 a 8");
     let b = ("b", "mov    0x10(%rsp),%rax; ret");
-    takes(
-        &[("a", "jmp    1 <a+0x1> => .text.b"), b],
-        "a 8 16 a 8",
-    );
+    takes(&[("a", "jmp    1 <a+0x1> => .text.b"), b], "a 8 16 a 8");
 }
 
 #[test]
