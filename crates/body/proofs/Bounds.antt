@@ -8,7 +8,7 @@ use native.Mathlib.Omega.{arith}
 use native.Mathlib.Nat.{zero-add, add-zero}
 use lib.ListN.{length}
 use lib.Dec.{ltb, leb, eqb}
-use borrow.Author.Tests.{eqb-false}
+use borrow.Author.Tests.{leb-true, leb-false, ltb-true, ltb-false, eqb-true, eqb-false, not-true, not-false}
 use Rattle.units.specs.Units.{part, zeros}
 use Rattle.units.specs.Choice.{pick}
 use Rattle.terms.specs.Times.{timeOk}
@@ -30,42 +30,75 @@ use Rattle.body.proofs.Reading.{ReadingBody, reading-first, reading-ahe
 
 -- ---- faults
 
--- a body's refusal, at this place
+-- a body's refusal, at this place, for a reason of which Q holds
+abbrev pub FaultFor : (ℕ → Type 0) → ℕ → Refusal → Type 0
+FaultFor Q at r = (r ≡ fault at (r .reason)) × Q (r .reason)
+
+-- for one of the reasons 1 to 7
 abbrev pub FaultAt : ℕ → Refusal → Type 0
-FaultAt at r = r ≡ fault at
+FaultAt at r = FaultFor (λ n. (0 < n) × (n < 8)) at r
 
 pub fault-place : (at : ℕ) (r : Refusal) → FaultAt at r → r .place ≡ at
-fault-place at r is = ap (λ (x : Refusal). x .place) is
+fault-place at r is = ap (λ (x : Refusal). x .place) (is .0)
 
--- every fault of a block is placed at its first byte
-at-start : (t : Bool) (at : ℕ) (rest : Block) → ((r : Refusal) → rest ≡ Broken r → FaultAt at r)
-    → (r : Refusal) → pick t (Broken (fault at)) rest ≡ Broken r → FaultAt at r
-at-start true at rest behind r e = cc
-at-start false at rest behind r e = behind r e
+-- Q holds of each reason for which a block at `at` may be at fault, where the tests ahead of it are passed
+pub record EachReason (sh : Shape) (bs : List ℕ) (at : ℕ) (m : Message) (Q : ℕ → Type 0) : Type 0 where
+  pub none : length bs ≤ at → Q 7
+  pub head : at < length bs → length bs < at + stampLength (sh .form) + 4 → Q 2
+  pub short : at + stampLength (sh .form) + 4 ≤ length bs → length bs < blockEnd m → Q 2
+  pub time : blockEnd m ≤ length bs → timeOk (sh .rule) (m .time) ≡ false → Q 3
+  pub empty : blockEnd m ≤ length bs → timeOk (sh .rule) (m .time) ≡ true → m .length ≡ 0 → Q 4
+  pub pad : blockEnd m ≤ length bs → timeOk (sh .rule) (m .time) ≡ true → m .length ≢ 0
+      → zeros (part bs (m .start + m .length) (m .length % 2)) ≡ false → Q 5
 
-found-broken : (m : Message) (next : ℕ) (at : ℕ) (r : Refusal) → Found m next ≡ Broken r → FaultAt at r
-found-broken m next at r e = let z : _≡_ {A = ℕ} 0 1 = cc in absurd (omega arith)
+-- a test that refuses for reason n, or hands on to the tests behind it
+by-test : (Q : ℕ → Type 0) (t : Bool) (at n : ℕ) (rest : Block) → (t ≡ true → Q n) → (t ≡ false → (r : Refusal) → rest ≡ Broken r → FaultFor Q at r)
+    → (r : Refusal) → pick t (Broken (fault at n)) rest ≡ Broken r → FaultFor Q at r
+by-test Q true at n rest here behind r e = let is : fault at n ≡ r = cc in subst (FaultFor Q at) is (refl, here refl)
+by-test Q false at n rest here behind r e = behind refl r e
+
+-- every fault of a block is placed at its first byte, and its reason is that of the first test that it fails
+pub broken-for : (sh : Shape) (bs : List ℕ) (at : ℕ) (Q : ℕ → Type 0) → EachReason sh bs at (headAt (sh .form) bs at) Q
+    → (r : Refusal) → blockAt sh bs at ≡ Broken r → FaultFor Q at r
+unfolding blockAt judge
+broken-for sh bs at Q each =
+    let m = headAt (sh .form) bs at in
+    let head-end = at + stampLength (sh .form) + 4 in
+    let in-form = timeOk (sh .rule) (m .time) in
+    let padded = zeros (part bs (m .start + m .length) (m .length % 2)) in
+    by-test Q (leb (length bs) at) at 7 _ (λ t. each .none (leb-true (length bs) at t))
+    (λ t₀. by-test Q (ltb (length bs) head-end) at 2 _ (λ t. each .head (leb-false (length bs) at t₀) (ltb-true (length bs) head-end t))
+    (λ t₁. by-test Q (ltb (length bs) (blockEnd m)) at 2 _ (λ t. each .short (ltb-false (length bs) head-end t₁) (ltb-true (length bs) (blockEnd m) t))
+    (λ t₂. let whole = ltb-false (length bs) (blockEnd m) t₂ in
+    by-test Q (not in-form) at 3 _ (λ t. each .time whole (not-true in-form t))
+    (λ t₃. by-test Q (eqb (m .length) 0) at 4 _ (λ t. each .empty whole (not-false in-form t₃) (eqb-true (m .length) 0 t))
+    (λ t₄. by-test Q (not padded) at 5 _ (λ t. each .pad whole (not-false in-form t₃) (eqb-false (m .length) 0 t₄) (not-true padded t))
+    (λ t₅ r e. let z : _≡_ {A = ℕ} 0 1 = cc in absurd (omega arith)))))))
 
 pub broken-at : (sh : Shape) (bs : List ℕ) (at : ℕ) (r : Refusal) → blockAt sh bs at ≡ Broken r → FaultAt at r
-unfolding blockAt judge
 broken-at sh bs at =
-    let m = headAt (sh .form) bs at in
-    at-start (leb (length bs) at) at _
-    (at-start (ltb (length bs) (at + stampLength (sh .form) + 4)) at _
-    (at-start (ltb (length bs) (blockEnd m)) at _
-    (at-start (not (timeOk (sh .rule) (m .time))) at _
-    (at-start (eqb (m .length) 0) at _
-    (at-start (not (zeros (part bs (m .start + m .length) (m .length % 2)))) at _
-    (found-broken m (blockEnd m) at))))))
+    broken-for sh bs at (λ n. (0 < n) × (n < 8))
+    (record {
+      none = λ a. (omega arith, omega arith);
+      head = λ a b. (omega arith, omega arith);
+      short = λ a b. (omega arith, omega arith);
+      time = λ a b. (omega arith, omega arith);
+      empty = λ a b c. (omega arith, omega arith);
+      pad = λ a b c d. (omega arith, omega arith);
+    })
 
--- bytes left over are placed at the first of them
-pub ending-faulty : (len k at : ℕ) (r : Refusal) → ending len k at ≡ Faulty r → FaultAt at r × (at ≢ len)
+-- bytes left over are placed at the first of them, for reason 6
+pub ending-faulty : (len k at : ℕ) (r : Refusal) → ending len k at ≡ Faulty r → (r ≡ fault at 6) × (at ≢ len)
 unfolding ending
 ending-faulty len k at r e = go (eqb at len) refl e
   where
-    go : (b : Bool) → eqb at len ≡ b → pick b (Counted k) (Faulty (fault at)) ≡ Faulty r → FaultAt at r × (at ≢ len)
+    go : (b : Bool) → eqb at len ≡ b → pick b (Counted k) (Faulty (fault at 6)) ≡ Faulty r → (r ≡ fault at 6) × (at ≢ len)
     go true t e = let z : _≡_ {A = ℕ} 0 1 = cc in absurd (omega arith)
     go false t e = (cc, eqb-false at len t)
+
+-- a refusal that is a fault for one of these reasons
+pub fault-named : (at n : ℕ) (r : Refusal) → r ≡ fault at n → 0 < n → n < 8 → FaultAt at r
+fault-named at n r is some few = subst (FaultAt at) (sym is) (refl, (some, few))
 
 -- how a walk ends, behind this many blocks and at this place: it stops there, or finds no block there
 pub record End (sh : Shape) (bs : List ℕ) (says : Checked) : Type 0 where
@@ -95,7 +128,7 @@ pub walk-end : (sh : Shape) (bs : List ℕ) → 4 ≤ length bs → End sh bs (w
 unfolding walk
 walk-end sh bs long = walk-ends sh bs (length bs + 1) 0 4 (walking-first sh bs long) (omega arith)
 
--- every refusal of a body is 15, and its place lies in the body or at its end
+-- every refusal of a body is 15, for one of the reasons, and its place lies in the body or at its end
 pub faulty-is : (kind : ℕ) (rule : TimeRule) (bs : List ℕ) (r : Refusal) → checkBody kind rule bs ≡ Faulty r → FaultAt (r .place) r × (r .place ≤ length bs)
 unfolding checkBody
 faulty-is kind rule bs r e = go (openBody kind rule bs) refl e
@@ -108,13 +141,13 @@ faulty-is kind rule bs r e = go (openBody kind rule bs) refl e
     go (Shaped sh) q h =
         let x = walk-end sh bs (open-long kind rule bs sh q) in
         at (x .place) (x .there .2)
-        (⊎-elim (λ s. ending-faulty (length bs) (x .blocks) (x .place) r (sym (s .1) ∙ h) .0) (λ s. let same : s .0 ≡ r = cc (sym (s .1) ∙ h) in subst (FaultAt (x .place)) same (s .2)) (x .how))
-    go Wrong q h = at 0 (omega arith) (cc)
+        (⊎-elim (λ s. fault-named (x .place) 6 r (ending-faulty (length bs) (x .blocks) (x .place) r (sym (s .1) ∙ h) .0) (omega arith) (omega arith)) (λ s. let same : s .0 ≡ r = cc (sym (s .1) ∙ h) in subst (FaultAt (x .place)) same (s .2)) (x .how))
+    go Wrong q h = at 0 (omega arith) (fault-named 0 1 r (cc) (omega arith) (omega arith))
 
 -- the place alone
 pub faulty-number : (kind : ℕ) (rule : TimeRule) (bs : List ℕ) (r : Refusal) → checkBody kind rule bs ≡ Faulty r → (r .number ≡ 15) × (r .room ≡ 0)
 faulty-number kind rule bs r e =
-    let is = faulty-is kind rule bs r e .0 in
+    let is = faulty-is kind rule bs r e .0 .0 in
     (ap (λ (x : Refusal). x .number) is, ap (λ (x : Refusal). x .room) is)
 
 pub faulty-place : (kind : ℕ) (rule : TimeRule) (bs : List ℕ) (r : Refusal) → checkBody kind rule bs ≡ Faulty r → r .place ≤ length bs

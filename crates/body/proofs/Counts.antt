@@ -1,12 +1,11 @@
 -- What the walk's plain numbers say of a body, and the shape of a body that has messages.
 use mathlib.Core.Path.{_≡_, refl, sym, ap, _∙_}
 use mathlib.Core.List.{List}
-use mathlib.Core.Bool.{true, false}
-use mathlib.Core.Logic.{⊎-elim}
+use mathlib.Core.Bool.{false}
 use Prim.Native.Nat.{ℕ, _+_, _≤_, _<_}
 use native.Mathlib.Omega.{arith}
 use lib.ListN.{length}
-use Rattle.body.specs.Walk.{opens, openBody, stampLength, headAt, walk}
+use Rattle.body.specs.Walk.{openBody, stampLength, headAt, walk}
 use Rattle.terms.specs.Refusals.{fault}
 use Rattle.body.specs.Answers.{checkOpened, checkBody, messageIn}
 use Rattle.body.specs.inner.Walks.{formIn, walked}
@@ -21,48 +20,33 @@ use Rattle.body.specs.declared.Checked.{Checked}
 use Rattle.body.specs.declared.Checked.the-variants.{Counted, Faulty}
 use Rattle.body.specs.declared.Walked.{Walked}
 use Rattle.body.proofs.Walking.{open-long}
-use Rattle.body.proofs.Reading.{ReadingBody, reading-first, ending-counted, Ahead, reading-fits, reading-ahead, message-shaped}
-use Rattle.body.proofs.Whole.{stop-some, known, open-not-carried}
-use Rattle.body.proofs.Bounds.{walk-end, faulty-is}
+use Rattle.body.proofs.Reading.{ReadingBody, reading-first, Ahead, reading-fits, reading-ahead, message-shaped}
+use Rattle.body.proofs.Whole.{known}
+use Rattle.body.proofs.Bounds.{faulty-is}
 
 -- ---- the walk's two numbers
 
--- a body of an opened type never counts no messages
-counted-some : (kind : ℕ) (rule : TimeRule) (bs : List ℕ) (n : ℕ) → opens kind ≡ true → checkBody kind rule bs ≡ Counted n → 0 < n
-unfolding checkBody
-counted-some kind rule bs n o e = go (openBody kind rule bs) refl e
-  where
-    go : (x : Opened) → openBody kind rule bs ≡ x → checkOpened x bs ≡ Counted n → 0 < n
-    go Carried q h = absurd (open-not-carried kind rule bs o q)
-    go Wrong q h = let z : _≡_ {A = ℕ} 0 1 = cc in absurd (omega arith)
-    go (Shaped sh) q h =
-        let x = walk-end sh bs (open-long kind rule bs sh q) in
-        ⊎-elim
-        (λ s.
-        let k : x .blocks ≡ n = ending-counted (length bs) (x .blocks) (x .place) n (sym (s .1) ∙ h) .0 in
-        omega (arith, stop-some sh (length bs) (x .blocks) (x .place) (s .0) (known kind rule bs sh q .least) .1))
-        (λ s. let z : _≡_ {A = ℕ} 0 1 = cc (sym (s .1) ∙ h) in absurd (omega arith)) (x .how)
-
-module _ (kind : ℕ) (rule : TimeRule) (bs : List ℕ) (w : Walked) (o : opens kind ≡ true) (is : w ≡ walked (checkBody kind rule bs)) where
-  -- a count that is not 0 is the number of messages
-  pub walked-counted : (w .count ≡ 0 → ⊥) → checkBody kind rule bs ≡ Counted (w .count)
-  walked-counted some = go (checkBody kind rule bs) refl
+module _ (kind : ℕ) (rule : TimeRule) (bs : List ℕ) (w : Walked) (is : w ≡ walked (checkBody kind rule bs)) where
+  -- no reason: the other number is how many messages there are
+  pub walked-counted : w .reason ≡ 0 → checkBody kind rule bs ≡ Counted (w .number)
+  walked-counted none = go (checkBody kind rule bs) refl
     where
-      go : (x : Checked) → checkBody kind rule bs ≡ x → checkBody kind rule bs ≡ Counted (w .count)
-      go (Counted n) e = e ∙ ap Counted (sym (ap (λ (x : Walked). x .count) (is ∙ ap walked e)))
-      go (Faulty f) e = absurd (some (ap (λ (x : Walked). x .count) (is ∙ ap walked e)))
-
-  -- a count of 0 is a fault, and the other number its place
-  pub walked-faulty : w .count ≡ 0 → checkBody kind rule bs ≡ Faulty (fault (w .place))
-  walked-faulty none = go (checkBody kind rule bs) refl
-    where
-      go : (x : Checked) → checkBody kind rule bs ≡ x → checkBody kind rule bs ≡ Faulty (fault (w .place))
-      go (Counted n) e =
-          let k : w .count ≡ n = ap (λ (x : Walked). x .count) (is ∙ ap walked e) in
-          absurd (omega (arith, counted-some kind rule bs n o e))
+      go : (x : Checked) → checkBody kind rule bs ≡ x → checkBody kind rule bs ≡ Counted (w .number)
+      go (Counted n) e = e ∙ ap Counted (sym (ap (λ (x : Walked). x .number) (is ∙ ap walked e)))
       go (Faulty f) e =
-          let p : w .place ≡ f .place = ap (λ (x : Walked). x .place) (is ∙ ap walked e) in
-          e ∙ ap Faulty (faulty-is kind rule bs f e .0 ∙ ap fault (sym p))
+          let i : w .reason ≡ f .reason = ap (λ (x : Walked). x .reason) (is ∙ ap walked e) in
+          absurd (omega (arith, faulty-is kind rule bs f e .0 .1 .0))
+
+  -- a reason: the other number is the place of the fault
+  pub walked-faulty : (w .reason ≡ 0 → ⊥) → checkBody kind rule bs ≡ Faulty (fault (w .number) (w .reason))
+  walked-faulty some = go (checkBody kind rule bs) refl
+    where
+      go : (x : Checked) → checkBody kind rule bs ≡ x → checkBody kind rule bs ≡ Faulty (fault (w .number) (w .reason))
+      go (Counted n) e = absurd (some (ap (λ (x : Walked). x .reason) (is ∙ ap walked e)))
+      go (Faulty f) e =
+          let i : w .reason ≡ f .reason = ap (λ (x : Walked). x .reason) (is ∙ ap walked e) in
+          let p : w .number ≡ f .place = ap (λ (x : Walked). x .number) (is ∙ ap walked e) in
+          e ∙ ap Faulty (faulty-is kind rule bs f e .0 .0 ∙ rw (i, p) refl)
 
 -- ---- the shape of a body that has messages
 

@@ -43,7 +43,7 @@ pub ending-counted : (len k at n : ℕ) → ending len k at ≡ Counted n → (k
 unfolding ending
 ending-counted len k at n e = go (eqb at len) refl e
   where
-    go : (b : Bool) → eqb at len ≡ b → pick b (Counted k) (Faulty (fault at)) ≡ Counted n → (k ≡ n) × (at ≡ len)
+    go : (b : Bool) → eqb at len ≡ b → pick b (Counted k) (Faulty (fault at 6)) ≡ Counted n → (k ≡ n) × (at ≡ len)
     go true t e = (cc, eqb-true at len t)
     go false t e = let z : _≡_ {A = ℕ} 0 1 = cc in absurd (omega arith)
 

@@ -83,21 +83,21 @@ stands-found sh bs at m next s =
 
 -- a head by its tests in their order, as the code makes them; next is the place behind the block
 module _ (rule : TimeRule) (bs : List ℕ) (at : ℕ) (m : Message) (next : ℕ) (is : next ≡ blockEnd m) where
-  pub judge-short : length bs < next → Broken (fault at) ≡ judge rule bs at m
+  pub judge-short : length bs < next → Broken (fault at 2) ≡ judge rule bs at m
   unfolding judge
   judge-short h = simp (lt-ltb (length bs) (blockEnd m) (omega (arith, is)))
 
-  pub judge-time : next ≤ length bs → timeOk rule (m .time) ≡ false → Broken (fault at) ≡ judge rule bs at m
+  pub judge-time : next ≤ length bs → timeOk rule (m .time) ≡ false → Broken (fault at 3) ≡ judge rule bs at m
   unfolding judge
   judge-time h t = simp (le-ltb (length bs) (blockEnd m) (omega (arith, is)), t)
 
-  pub judge-empty : next ≤ length bs → timeOk rule (m .time) ≡ true → m .length ≡ 0 → Broken (fault at) ≡ judge rule bs at m
+  pub judge-empty : next ≤ length bs → timeOk rule (m .time) ≡ true → m .length ≡ 0 → Broken (fault at 4) ≡ judge rule bs at m
   unfolding judge
   judge-empty h t e = simp (le-ltb (length bs) (blockEnd m) (omega (arith, is)), t, eq-eqb (m .length) 0 e)
 
   pub judge-pad : (z : Bool) → next ≤ length bs → timeOk rule (m .time) ≡ true → (m .length ≡ 0 → ⊥)
       → zeros (part bs (m .start + m .length) (next - (m .start + m .length))) ≡ z
-      → pick (not z) (Broken (fault at)) (Found m next) ≡ judge rule bs at m
+      → pick (not z) (Broken (fault at 5)) (Found m next) ≡ judge rule bs at m
   unfolding judge
   judge-pad z h t some pad =
       let l : next - (m .start + m .length) ≡ m .length % 2 = omega (arith, is) in
@@ -170,7 +170,7 @@ pub ending-exact : (len k at : ℕ) → at ≡ len → ending len k at ≡ Count
 unfolding ending
 ending-exact len k at e = rw (eq-eqb at len e)
 
-pub ending-over : (len k at : ℕ) → (at ≡ len → ⊥) → ending len k at ≡ Faulty (fault at)
+pub ending-over : (len k at : ℕ) → (at ≡ len → ⊥) → ending len k at ≡ Faulty (fault at 6)
 unfolding ending
 ending-over len k at e = rw (ne-eqb at len e)
 

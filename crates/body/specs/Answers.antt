@@ -26,7 +26,7 @@ use Rattle.body.specs.declared.Listed.the-variants.{Count, Unlisted, NoR
 abbrev pub checkOpened : Opened → List ℕ → Checked
 checkOpened Carried bs = Counted 0
 checkOpened (Shaped sh) bs = walk sh bs
-checkOpened Wrong bs = Faulty (fault 0)
+checkOpened Wrong bs = Faulty (fault 0 1)
 
 unfoldable pub checkBody : ℕ → TimeRule → List ℕ → Checked
 checkBody kind rule bs = checkOpened (openBody kind rule bs) bs

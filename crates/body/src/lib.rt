@@ -54,10 +54,11 @@ pub enum Block {
     Broken(Refusal),
 }
 
-// What the walk over a body comes to, in plain numbers: how many messages there are, or 0 and the place of the first fault.
+// What the walk over a body comes to, in two numbers: 0 and how many messages there are, or the reason of the first fault and its
+// place.
 pub struct Walked {
-    pub count: usize,
-    pub place: usize,
+    pub reason: u8,
+    pub number: usize,
 }
 
 // The number of messages in a body, or the refusal.
@@ -80,7 +81,7 @@ pub enum Listed {
     NoRoom(usize),
 }
 
-// The number of messages of a body, 0 for a type that isn't opened, or refusal 15 with its place.
+// The number of messages of a body, 0 for a type that isn't opened, or refusal 15 with its place and reason.
 pub fn check_body(body: &[u8], kind: u8, rule: TimeRule) -> Checked
     ensures { λ r. ⌜ r ≡ checkBody kind rule (now (body .entry)) ⌝ }
 {
@@ -88,10 +89,10 @@ pub fn check_body(body: &[u8], kind: u8, rule: TimeRule) -> Checked
         return Checked::Counted(0);
     }
     let walked = walk_body(body, kind, rule);
-    if walked.count == 0 {
+    if walked.reason != 0 {
         return Checked::Faulty(walk_refusal(walked));
     }
-    Checked::Counted(walked.count)
+    Checked::Counted(walked.number)
 }
 
 // The message of this number, from 0.

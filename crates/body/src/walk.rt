@@ -76,7 +76,7 @@ pub fn block_end(m: Message) -> usize
     m.start + m.length + m.length % 2
 }
 
-// The place behind the block at `at`, by what its head says; 0 where it is at fault.
+// The place behind the block at `at`, by what its head says; where it is at fault, the reason.
 fn judge_block(body: &[u8], rule: TimeRule, mask: u64, limit: u64, at: usize, m: Message) -> usize
     requires { ⌜ (mask ≡ maskOf rule) × (limit ≡ limitOf rule) ⌝ }
     requires { ⌜ (at ≤ m .start) × (m .start ≤ length (now body)) × (m .length < 2 ^ 16) ⌝ }
@@ -85,21 +85,22 @@ fn judge_block(body: &[u8], rule: TimeRule, mask: u64, limit: u64, at: usize, m:
     let pad = m.start + m.length;
     let next = block_end(m);
     if body.len() < next {
-        return 0;
+        return 2;
     }
     if limit <= m.time & mask {
-        return 0;
+        return 3;
     }
     if m.length == 0 {
-        return 0;
+        return 4;
     }
     if !all_zero(&body[pad..next]) {
-        return 0;
+        return 5;
     }
     next
 }
 
-// The place behind the block at `at`; 0 where it is at fault. A plain number: an enum would go through memory.
+// The place behind the block at `at`; where it is at fault, the reason, which is below it. A plain number: an enum would go through
+// memory.
 fn next_block(body: &[u8], at: usize, shape: Shape, mask: u64, limit: u64) -> usize
     requires { ⌜ (mask ≡ maskOf (shape .rule)) × (limit ≡ limitOf (shape .rule)) ⌝ }
     requires { ⌜ at ≤ length (now body) ⌝ }
@@ -107,7 +108,10 @@ fn next_block(body: &[u8], at: usize, shape: Shape, mask: u64, limit: u64) -> us
 {
     let form = shape.form;
     if body.len() < at + stamp_length(form) + 4 {
-        return 0;
+        if body.len() <= at {
+            return 7;
+        }
+        return 2;
     }
     let m = head_at(body, at, form);
     let rule = shape.rule;
@@ -136,21 +140,24 @@ fn count_blocks(body: &[u8], shape: Shape) -> Walked
     let mut at: usize = 4;
     while !stop_at(shape, body.len(), k, at) {
         let next = next_block(body, at, shape, mask, limit);
-        if next == 0 {
+        if next < 8 {
             return Walked {
-                count: 0,
-                place: at,
+                reason: next as u8,
+                number: at,
             };
         }
         at = next;
         k += 1;
     }
     if at == body.len() {
-        Walked { count: k, place: 0 }
+        Walked {
+            reason: 0,
+            number: k,
+        }
     } else {
         Walked {
-            count: 0,
-            place: at,
+            reason: 6,
+            number: at,
         }
     }
 }
@@ -164,11 +171,11 @@ pub fn walk_body(body: &[u8], kind: u8, rule: TimeRule) -> Walked
     walk_whole(&body[0..], kind, rule)
 }
 
-// The refusal of a walk that counts nothing: the one place where its numbers become one.
+// The refusal of a walk that names a reason: the one place where its numbers become one.
 pub fn walk_refusal(walked: Walked) -> Refusal
-    ensures { λ r. ⌜ r ≡ fault (walked .place) ⌝ }
+    ensures { λ r. ⌜ r ≡ fault (walked .number) (walked .reason) ⌝ }
 {
-    fault(walked.place)
+    fault(walked.number, walked.reason)
 }
 
 fn walk_whole(body: &[u8], kind: u8, rule: TimeRule) -> Walked
@@ -176,8 +183,14 @@ fn walk_whole(body: &[u8], kind: u8, rule: TimeRule) -> Walked
     ensures { λ r. ⌜ r ≡ walked (checkBody kind rule (now (body .entry))) ⌝ }
 {
     match open_body(body, kind, rule) {
-        Opened::Carried => Walked { count: 0, place: 0 },
+        Opened::Carried => Walked {
+            reason: 0,
+            number: 0,
+        },
         Opened::Shaped(shape) => count_blocks(body, shape),
-        Opened::Wrong => Walked { count: 0, place: 0 },
+        Opened::Wrong => Walked {
+            reason: 1,
+            number: 0,
+        },
     }
 }

@@ -59,7 +59,7 @@ openStep d kind rule len =
 abbrev pub openWord : ℕ → ℕ → ℕ
 openWord kind rule = pick (eqb kind 0x50 && stamped rule) (2 ^ 31) 0
 
--- ---- adding: 1, then 17, then 15 (or 17 for a time where none is stored), then 16
+-- ---- adding: 1, then 17, then 15 (or 17 for a time where none is stored), then 16; the reason of 15 is 3, time
 
 -- n outside 1 to 65,535, or a 65,536th block in 0x30
 abbrev pub badBlock : Draft → ℕ → Bool
@@ -84,7 +84,7 @@ unfoldable pub addStep : Draft → ℕ → ℕ → ℕ → Step
 addStep d len time n =
     pick (badDraft d len) (Denied (refused 1 0) d)
     (pick (badBlock d n) (Denied (refused 17 0) d)
-    (pick (badTime (d .rule) time) (Denied (fault 0) d)
+    (pick (badTime (d .rule) time) (Denied (fault 0 3) d)
     (pick (strayTime (d .rule) time) (Denied (refused 17 0) d)
     (pick (ltb len (grown d n)) (Denied (needing (grown d n) (refused 16 0)) d)
     (Done (draftAdded d n))))))
@@ -93,12 +93,12 @@ addStep d len time n =
 abbrev pub entryOf : ℕ → ℕ → List ℕ → Entry
 entryOf time upper bytes = record { time = time; id = upper * 2 ^ 16 + length bytes; bytes = bytes }
 
--- ---- closing: 1, then 15 where the used count is 4
+-- ---- closing: 1, then 15 where the used count is 4; its reason is 7, the body ends where a block must begin
 
 unfoldable pub closeStep : Draft → ℕ → Step
 closeStep d len =
     pick (badDraft d len) (Denied (refused 1 0) d)
-    (pick (eqb (d .used) 4) (Denied (fault 0) d)
+    (pick (eqb (d .used) 4) (Denied (fault 0 7) d)
     (Done d))
 
 -- the counter in 0x30, nothing in 0x50

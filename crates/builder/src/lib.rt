@@ -96,7 +96,7 @@ impl Draft {
             return Step::Denied(refuse(1, 0), self);
         }
         if self.used == 4 {
-            return Step::Denied(fault(0), self);
+            return Step::Denied(fault(0, 7), self);
         }
         if counts_blocks(self.kind) {
             put16(buf, 0, (self.blocks % 0x1_0000) as u16);
@@ -192,7 +192,7 @@ fn judge_add(draft: Draft, len: usize, time: u64, n: usize) -> Step
         return Step::Denied(refuse(17, 0), draft);
     }
     if bad_time(draft.rule, time) {
-        return Step::Denied(fault(0), draft);
+        return Step::Denied(fault(0, 3), draft);
     }
     if stray_time(draft.rule, time) {
         return Step::Denied(refuse(17, 0), draft);

@@ -57,7 +57,7 @@ bad-says d len time n e =
         → stepTold
         (pick a (Denied (refused 1 0) d)
         (pick b (Denied (refused 17 0) d)
-        (pick c (Denied (fault 0) d)
+        (pick c (Denied (fault 0 3) d)
         (pick s (Denied (refused 17 0) d)
         (pick t (Denied (needing (grown d n) (refused 16 0)) d) (Done (draftAdded d n))))))) .refusal .number
         ≡ 1
@@ -79,13 +79,13 @@ module _ (d : Draft) (len time upper n : ℕ) where
   given-1 e = rw (bad-made d len time n e, e)
 
   given-17 : 65535 < upper → stepTold (addStep d len time n) .refusal .number ≢ 1
-      → stepTold (addGiven d len time upper n) ≡ record { refusal = record { number = 17; place = 0; room = 0 }; draft = d }
+      → stepTold (addGiven d len time upper n) ≡ record { refusal = record { number = 17; place = 0; room = 0; reason = 0 }; draft = d }
   unfolding addGiven
   given-17 wide other = go (badDraft d len) refl
     where
       go : (a : Bool) → badDraft d len ≡ a
           → stepTold (pick a (Denied (refused 1 0) d) (pick (ltb 65535 upper) (Denied (refused 17 0) d) (addStep d len time n)))
-          ≡ record { refusal = record { number = 17; place = 0; room = 0 }; draft = d }
+          ≡ record { refusal = record { number = 17; place = 0; room = 0; reason = 0 }; draft = d }
       go true q = absurd (other (ap (λ (s : Step). stepTold s .refusal .number) (bad-made d len time n q)))
       go false q = rw (lt-ltb 65535 upper wide)
 
@@ -115,7 +115,7 @@ interface =
       written = λ t. refl;
       draft = λ t. refl;
       fields-given = λ channel version sequence flags kind rtc time. refl;
-      draft-given = λ number place room used blocks kind rule. refl;
+      draft-given = λ number place room reason used blocks kind rule. refl;
       write-17 = λ c room n. rw (unheld (c .fields) n);
       writes = λ c room h. rw (fit-made (c .fields) h);
       read-packet = λ buf start end n s h. answers _ _ n s h;

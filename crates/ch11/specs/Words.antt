@@ -17,7 +17,7 @@ use Rattle.recording.specs.declared.Recording.{Recording}
 
 -- struct ch11_refusal, with which every other struct of a result begins
 abbrev pub refusalWords : Refusal → List ℕ
-refusalWords r = r .number ∷ r .place ∷ r .room ∷ []
+refusalWords r = r .number ∷ r .place ∷ r .room ∷ r .reason ∷ []
 
 -- its number of words
 abbrev pub refusalSize : ℕ

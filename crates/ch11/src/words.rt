@@ -19,7 +19,7 @@ use recording::Recording;
 use terms::Refusal;
 
 // The words of each struct of include/ch11.h.
-pub const REFUSAL: usize = 3;
+pub const REFUSAL: usize = 4;
 
 pub const FIELDS: usize = 7;
 
@@ -43,6 +43,7 @@ pub fn put_refusal(words: &mut [u64], f: Refusal)
     words[0] = f.number as u64;
     words[1] = f.place as u64;
     words[2] = f.room as u64;
+    words[3] = f.reason as u64;
 }
 
 // struct ch11_packet of an accepted packet.
@@ -50,6 +51,7 @@ pub fn packet_words(p: Packet) -> [u64; PACKET]
     ensures { λ r. ⌜ r ≡ packetWords (packetTold (Accepted p)) ⌝ }
 {
     [
+        0,
         0,
         0,
         0,

@@ -54,7 +54,7 @@ pub fn pass_framed(w: &[u8], at: usize) -> PacketPass
     let body = layout.body;
     let filler = layout.filler;
     let walked = walk_body(&w[body..filler], kind, message_rule(w[14]));
-    if walked.count == 0 {
+    if walked.reason != 0 {
         return PacketPass::Barred(moved(walk_refusal(walked), at + body));
     }
     PacketPass::Passed(read32(w, 4))

@@ -23,16 +23,13 @@ use Rattle.body.proofs.ChannelWords as Words
 use Rattle.body.proofs.ChannelWords.{countedBy, countBy, shapeOf, word-says, word-made}
 use Rattle.body.proofs.Exactly.{body-of-blocks, body-is-blocks}
 use Rattle.promises.specs.Faults.{AtFault}
-use Rattle.promises.proofs.Faults.{RightBy, fit-each, each-fit, fault-at, fault-once, each-other, fault-other}
+use Rattle.promises.proofs.Faults.{RightBy, TimeBy, plain-other, fit-each, each-fit, fault-at, at-fault, fault-once, each-other, fault-other}
 use Rattle.frame.specs.Rules.{messageRule}
 use Rattle.promises.specs.Refusals.{OneOf}
 use Rattle.promises.specs.Bodies.{openedTypes, MessageWord, BlockKept, BodyKept, MessagesKept, BodyAtFault}
 use Rattle.promises.proofs.NumbersKept.{message-time-exactly}
 
 -- ---- blocks
-
-plain-other : Plain ≢ Stamped
-plain-other e = let z : _≡_ {A = ℕ} 0 1 = cc in omega arith
 
 block-says : (flags : ℕ) (form : Form) (e : Entry) → Fits form (messageRule flags) e → BlockKept flags form e
 unfolding stampLength lengthBy
@@ -238,14 +235,31 @@ module _ (kind flags : ℕ) (bs : List ℕ) where
       let n : length es ≡ length ds = cc (sym (a .0) ∙ b .0) in
       sym (a .1) ∙ ap (entriesIn kind rule bs) n ∙ b .1
 
-  -- the place of the fault, and no other
-  pub fault-kept : (r : Refusal) → Bytes bs → checkBody kind (messageRule flags) bs ≡ Faulty r → BodyAtFault kind flags bs (r .place)
-  fault-kept r raw e =
-      fault-other (RightBy (messageRule flags)) (BlockKept flags) (λ form x. (block-says flags form x, block-made flags form x)) kind bs (r .place)
-      (fault-at kind (messageRule flags) bs r raw e)
+  -- the fault in document 01's words, and in those of the reader's laws
+  fault-says : (at reason : ℕ) → AtFault kind (RightBy (messageRule flags)) (TimeBy (messageRule flags)) bs at reason → BodyAtFault kind flags bs at reason
+  fault-says = fault-other (RightBy (messageRule flags)) (BlockKept flags) (block-says flags) _ _ (message-time-exactly flags) kind bs
 
-  pub fault-kept-once : Bytes bs → (a b : ℕ) → BodyAtFault kind flags bs a → BodyAtFault kind flags bs b → a ≡ b
-  fault-kept-once raw a b at-a at-b =
-      let as-tested : (p : ℕ) → BodyAtFault kind flags bs p → AtFault kind (RightBy (messageRule flags)) bs p =
-      fault-other (BlockKept flags) (RightBy (messageRule flags)) (λ form x. (block-made flags form x, block-says flags form x)) kind bs in
-      fault-once kind (messageRule flags) bs a b raw (as-tested a at-a) (as-tested b at-b)
+  fault-made : (at reason : ℕ) → BodyAtFault kind flags bs at reason → AtFault kind (RightBy (messageRule flags)) (TimeBy (messageRule flags)) bs at reason
+  fault-made = fault-other (BlockKept flags) (RightBy (messageRule flags)) (block-made flags) _ _ (λ t. (message-time-exactly flags t .1, message-time-exactly flags t .0)) kind bs
+
+  -- a body that is refused is at fault as the refusal says
+  pub fault-kept : (r : Refusal) → Bytes bs → checkBody kind (messageRule flags) bs ≡ Faulty r → BodyAtFault kind flags bs (r .place) (r .reason)
+  fault-kept r raw e = fault-says (r .place) (r .reason) (fault-at kind (messageRule flags) bs r raw e)
+
+  -- exactly where it breaks the layout
+  pub fault-kept-exactly : Bytes bs → (¬ MessagesKept kind flags bs) ↔ ((at reason : ℕ) × BodyAtFault kind flags bs at reason)
+  fault-kept-exactly raw = (go (checkBody kind (messageRule flags) bs) refl, back)
+    where
+      go : (x : Checked) → checkBody kind (messageRule flags) bs ≡ x → ¬ MessagesKept kind flags bs → (at reason : ℕ) × BodyAtFault kind flags bs at reason
+      go (Counted n) e broken = absurd (broken (messages-say raw (rw e refl)))
+      go (Faulty r) e broken = (r .place, r .reason, fault-kept r raw e)
+
+      back : (at reason : ℕ) × BodyAtFault kind flags bs at reason → ¬ MessagesKept kind flags bs
+      back (at, reason, there) kept =
+          let refused = at-fault kind (messageRule flags) bs at reason (fault-made at reason there) in
+          let z : _≡_ {A = ℕ} 0 1 = cc (sym (kept-counted kept .1) ∙ refused) in
+          omega arith
+
+  -- and at one place, for one reason
+  pub fault-kept-once : Bytes bs → (a b r s : ℕ) → BodyAtFault kind flags bs a r → BodyAtFault kind flags bs b s → (a ≡ b) × (r ≡ s)
+  fault-kept-once raw a b r s at-a at-b = fault-once kind (messageRule flags) bs a b r s (fault-made a r at-a) (fault-made b s at-b)

@@ -31,7 +31,7 @@ use Rattle.promises.proofs.HandedOut.{hands-out, hands-out-once, readin
 use Rattle.promises.specs.Refusals.{readerRefusals}
 use Rattle.promises.specs.Endings.{FromTable, readTold}
 use Rattle.promises.specs.Demand1.{Alike, ListKept, Demand1}
-use Rattle.promises.proofs.BodiesKept.{fault-kept-once}
+use Rattle.promises.proofs.BodiesKept.{fault-kept-exactly, fault-kept-once}
 use Rattle.promises.proofs.Refusing.{read-numbered}
 use Rattle.promises.proofs.Ends.{accepted-is, read-ends, read-placed, list-ends, message-ends}
 
@@ -122,6 +122,7 @@ demand-1 =
     record {
       read-ends = read-ends;
       read-placed = λ buf raw start end. read-placed buf start end raw;
+      fault-exactly = fault-kept-exactly;
       placed-once = fault-kept-once;
       list-ends = list-ends;
       message-ends = message-ends;

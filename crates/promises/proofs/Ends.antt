@@ -79,7 +79,7 @@ module _ (buf : List ℕ) (s e : ℕ) where
     where
       go : (r ≡ refused (outerRefusal buf s e) s) ⊎ ((outerRefusal buf s e ≡ 0) × (bodyAnswer (bodyChecked (window buf s e)) (window buf s e) s ≡ Refused r))
           → Placed (window buf s e) s r
-      go (inl h) = rw h (record { room = refl; outer = λ l. refl; inner = λ n. absurd (outer-other n) })
+      go (inl h) = rw h (record { room = refl; outer = λ l. (refl, refl); inner = λ n. absurd (outer-other n) })
       go (inr h) = body-placed raw (bodyChecked (window buf s e)) refl r (h .1)
 
   pub read-placed : Bytes buf → packetTold (readPacket buf s e) .refusal .number ≢ 0 → Placed (window buf s e) s (packetTold (readPacket buf s e) .refusal)

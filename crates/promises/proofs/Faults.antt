@@ -1,27 +1,30 @@
--- A body is refused exactly where it is at fault, and it is at fault at one place.
+-- A body is refused exactly where it is at fault and for the rule that it breaks there, and it is at fault at one place, for one reason.
 use mathlib.Core.Path.{_≡_, refl, sym, ap, _∙_, subst}
 use mathlib.Core.List.{List, [], _∷_, _++_, append-assoc}
 use mathlib.Core.Bool.{Bool, true, false, _&&_, and-false, false≢true}
 use mathlib.Core.Logic.{_⊎_, inl, inr, _↔_, _≢_}
-use Prim.Native.Nat.{ℕ, zero, suc, _+_, _-_, _≤_, _<_}
+use Prim.Native.Nat.{ℕ, zero, suc, _+_, _-_, _%_, _^_, _≤_, _<_}
 use native.Mathlib.Omega.{arith}
 use native.Mathlib.Decide.{decLe}
 use native.Mathlib.Nat.{zero-add, add-zero}
-use lib.ListN.{length, take, drop, length-append, length-drop, take-append-drop}
-use lib.Seq.{length-take-le, drop-at}
-use lib.Dec.{ltb, leb}
-use borrow.Author.Tests.{ltb-false, leb-true, leb-false, le-leb, lt-leb, lt-ltb}
-use Rattle.units.specs.Units.{Bytes, field}
+use lib.ListN.{length, take, drop, getD, length-append, length-drop, take-append-drop}
+use lib.Seq.{length-take-le, drop-at, drop-drop, getD-drop}
+use lib.Dec.{ltb, leb, eqb}
+use borrow.Author.Tests.{ltb-false, leb-true, leb-false, eqb-true, eqb-false, le-leb, lt-leb, lt-ltb}
+use Rattle.units.specs.Units.{Bytes, part, zeros, num, field}
 use Rattle.units.proofs.Choices.{and-true}
-use Rattle.body.specs.Walk.{opens, openBody, blockAt, stopAt, walkFrom, walk}
+use Rattle.terms.specs.Times.{timeOk}
+use Rattle.terms.proofs.Times.{zero-ok}
+use Rattle.body.specs.Walk.{opens, openBody, stampLength, lengthBy, headAt, blockEnd, blockAt, stopAt, walkFrom, walk}
 use Rattle.terms.specs.Refusals.{fault}
 use Rattle.body.specs.Answers.{checkOpened, checkBody, tab}
-use Rattle.body.specs.Blocks.{Entry, blockBytes, Fits, AllFit, blocksBytes, messageOn, entryAt}
+use Rattle.body.specs.Blocks.{Entry, blockBytes, Fits, AllFit, blocksBytes, messageOn}
 use Rattle.body.specs.Layout.{OpenedType, Asked, exactly, toTheEnd, ChannelWord}
-use Rattle.promises.specs.Faults.{Each, Due, Begins, RightBlock, AtFault, cut, word, block, over}
+use Rattle.promises.specs.Faults.{Each, Due, Begins, stamp, headSize, n, size, Breaks, headCut, bytesCut, time, empty, pad, ends, Lowest, AtFault, cut, word, block, over}
 use Rattle.terms.specs.declared.TimeRule.{TimeRule}
 use Rattle.terms.specs.declared.Refusal.{Refusal}
 use Rattle.body.specs.declared.Form.{Form}
+use Rattle.body.specs.declared.Form.the-variants.{Stamped, Plain}
 use Rattle.body.specs.declared.Shape.{Shape}
 use Rattle.body.specs.declared.Message.{Message}
 use Rattle.body.specs.declared.Opened.{Opened}
@@ -29,16 +32,19 @@ use Rattle.body.specs.declared.Opened.the-variants.{Carried, Shaped, Wrong}
 use Rattle.body.specs.declared.Block.{Block}
 use Rattle.body.specs.declared.Block.the-variants.{Found, Broken}
 use Rattle.body.specs.declared.Checked.the-variants.{Faulty}
-use Rattle.body.proofs.Walking.{stands-found, found-next, Walking, walking-first, walking-next, walk-stop, walk-broken, walk-found, Counting, counting-first, counting-stop, counting-broken, counting-next, ending-over}
+use Rattle.body.proofs.Walking.{found-stands, stands-found, found-next, Walking, walking-first, walking-next, walk-stop, walk-broken, walk-found, Counting, counting-first, counting-stop, counting-broken, counting-next, ending-over}
 use Rattle.body.proofs.Reading.{length-tab}
-use Rattle.body.proofs.Whole.{entryOn, stands-there, on-before, found-is, found-fits, Come, come-first, come-next, open-not-carried}
+use Rattle.body.proofs.Whole.{entryOn, stands-there, on-before, Come, come-first, come-next, open-not-carried}
 use Rattle.body.proofs.Exactly.{check-shaped}
-use Rattle.body.proofs.Bounds.{FaultAt, fault-place, broken-at, ending-faulty}
+use Rattle.body.proofs.Bounds.{EachReason, broken-for, ending-faulty}
 use Rattle.body.proofs.ChannelWords.{opens-exactly, countedBy, countBy, shapeOf, word-says, word-made}
 
--- a block keeps the rules under a time rule
+-- a block keeps the rules under a time rule, and a time is in form under it
 abbrev pub RightBy : TimeRule → Form → Entry → Type 0
 RightBy rule form e = Fits form rule e
+
+abbrev pub TimeBy : TimeRule → ℕ → Type 0
+TimeBy rule t = timeOk rule t ≡ true
 
 pub fit-each : (form : Form) (rule : TimeRule) (es : List Entry) → AllFit form rule es → Each (RightBy rule form) es
 fit-each form rule [] all = tt
@@ -48,32 +54,167 @@ pub each-fit : (form : Form) (rule : TimeRule) (es : List Entry) → Each (Right
 each-fit form rule [] all = tt
 each-fit form rule (e ∷ es) all = (all .0, each-fit form rule es (all .1))
 
+-- ---- the rules that a block breaks
+
+module _ (InForm : ℕ → Type 0) (form : Form) (rest : List ℕ) where
+  -- none below a limit, where those below it are kept
+  none-below : (limit : ℕ) → (2 < limit → size form rest ≤ length rest) → (3 < limit → form ≡ Stamped → InForm (field rest 0 8))
+      → (4 < limit → n form rest ≢ 0) → (5 < limit → n form rest % 2 ≡ 1 → getD rest (headSize form + n form rest) 0 ≡ 0)
+      → (lower : ℕ) → lower < limit → ¬ Breaks InForm form rest lower
+  none-below limit whole timed some padded lower less (headCut begun short) = omega (arith, whole less)
+  none-below limit whole timed some padded lower less (bytesCut head short) = omega (arith, whole less)
+  none-below limit whole timed some padded lower less (time w is out) = out (timed less is)
+  none-below limit whole timed some padded lower less (empty w z) = some less z
+  none-below limit whole timed some padded lower less (pad w odd other) = other (padded less odd)
+  none-below limit whole timed some padded lower less (ends z) = omega (arith, whole (omega arith))
+
+  -- nor where nothing is left
+  none-left : length rest ≡ 0 → (lower : ℕ) → lower < 7 → ¬ Breaks InForm form rest lower
+  none-left z lower less (headCut begun short) = omega arith
+  none-left z lower less (bytesCut head short) = omega arith
+  none-left z lower less (time w is out) = omega arith
+  none-left z lower less (empty w e) = omega arith
+  none-left z lower less (pad w odd other) = omega arith
+  none-left z lower less (ends e) = omega arith
+
+  -- the lowest is one
+  lowest-once : (a b : ℕ) → Lowest InForm form rest a → Lowest InForm form rest b → a ≡ b
+  lowest-once a b first second = go (decLe a b) (decLe b a)
+    where
+      go : Dec (a ≤ b) → Dec (b ≤ a) → a ≡ b
+      go (yes x) (yes y) = omega arith
+      go (yes x) (no y) = absurd (second .1 a (omega arith) (first .0))
+      go (no x) y = absurd (first .1 b (omega arith) (second .0))
+
 -- ---- one place: what the walk finds there, and whether it goes on
 
-module _ (sh : Shape) (bs : List ℕ) (at : ℕ) where
-  -- where the walk finds no block, no right one stands
-  broken-wrong : (r : Refusal) → at ≤ length bs → blockAt sh bs at ≡ Broken r → ¬ RightBlock (RightBy (sh .rule)) (sh .form) (drop at bs)
-  broken-wrong r within broken right =
-      let front = take at bs in
-      let l : length front ≡ at = length-take-le at bs within in
-      let is : bs ≡ front ++ (blockBytes (sh .form) (right .entry) ++ right .behind) =
-      sym (take-append-drop at bs) ∙ ap (λ (r : List ℕ). front ++ r) (right .is) in
-      let found = stands-found sh bs (length front) _ _ (stands-there sh bs front (right .behind) (right .entry) is (right .right)) in
-      let z : _≡_ {A = ℕ} 0 1 = cc (found, l, broken) in
-      omega arith
+stamp-is : (form : Form) → stampLength form ≡ stamp form
+unfolding stampLength
+stamp-is Stamped = refl
+stamp-is Plain = refl
 
-  -- a block that it finds is a right one
-  found-right : (m : Message) (next : ℕ) → Bytes bs → at ≤ length bs → blockAt sh bs at ≡ Found m next → RightBlock (RightBy (sh .rule)) (sh .form) (drop at bs)
-  found-right m next raw within found =
-      let b = blockBytes (sh .form) (entryAt bs m) in
-      let split : bs ≡ take at bs ++ (b ++ drop next bs) =
-      sym (take-append-drop next bs) ∙ ap (λ (r : List ℕ). r ++ drop next bs) (found-is sh bs at m next raw found) ∙ append-assoc (take at bs) b (drop next bs) in
+-- what a block's head says, by the bytes that are left from its first byte on
+n-is : (form : Form) (bs : List ℕ) (at : ℕ) → headAt form bs at .length ≡ n form (drop at bs)
+unfolding headAt lengthBy
+n-is form bs at = rw (stamp-is form) (ap (λ (l : List ℕ). num (take 4 l) % 2 ^ 16) (sym (drop-drop (stamp form) at bs)))
+
+size-is : (form : Form) (bs : List ℕ) (at : ℕ) → blockEnd (headAt form bs at) ≡ at + size form (drop at bs)
+unfolding headAt
+size-is form bs at = rw (n-is form bs at) (omega (arith, stamp-is form))
+
+pub plain-other : Plain ≢ Stamped
+plain-other e = let z : _≡_ {A = ℕ} 0 1 = cc in omega arith
+
+module _ (rule : TimeRule) (bs : List ℕ) (at : ℕ) where
+  timed-right : (form : Form) → timeOk rule (headAt form bs at .time) ≡ true → form ≡ Stamped → TimeBy rule (field (drop at bs) 0 8)
+  unfolding headAt stampLength
+  timed-right Stamped t is = t
+  timed-right Plain t is = absurd (plain-other is)
+
+  timed-wrong : (form : Form) → timeOk rule (headAt form bs at .time) ≡ false → (form ≡ Stamped) × (¬ TimeBy rule (field (drop at bs) 0 8))
+  unfolding headAt stampLength num
+  timed-wrong Stamped t = (refl, λ right. false≢true (sym t ∙ right))
+  timed-wrong Plain t = absurd (false≢true (sym t ∙ zero-ok rule))
+
+-- a pad byte, if there is one
+zeros-one : (l : List ℕ) → zeros (take 1 l) ≡ eqb (getD l 0 0) 0
+unfolding zeros
+zeros-one [] = refl
+zeros-one (b ∷ l) = and-identity (eqb b 0)
+  where
+    and-identity : (t : Bool) → (t && true) ≡ t
+    and-identity true = refl
+    and-identity false = refl
+
+module _ (form : Form) (bs : List ℕ) (at : ℕ) where
+  abbrev padZeros : Bool
+  padZeros = zeros (part bs (headAt form bs at .start + headAt form bs at .length) (headAt form bs at .length % 2))
+
+  abbrev padByte : ℕ
+  padByte = getD (drop at bs) (headSize form + n form (drop at bs)) 0
+
+  -- where n is odd it is the byte behind the n bytes
+  pad-odd : n form (drop at bs) % 2 ≡ 1 → padZeros ≡ eqb padByte 0
+  unfolding headAt
+  pad-odd odd =
+      let place = at + stamp form + 4 + n form (drop at bs) in
+      let there : at + (headSize form + n form (drop at bs)) ≡ place = omega arith in
+      rw (n-is form bs at, stamp-is form, odd, zeros-one (drop place bs), getD-drop place bs 0 0, add-zero, getD-drop at bs (headSize form + n form (drop at bs)) 0, there)
+
+  pad-even : n form (drop at bs) % 2 ≡ 0 → padZeros ≡ true
+  unfolding headAt zeros
+  pad-even even = rw (n-is form bs at, even)
+
+  pad-right : padZeros ≡ true → n form (drop at bs) % 2 ≡ 1 → padByte ≡ 0
+  pad-right t odd = eqb-true padByte 0 (sym (pad-odd odd) ∙ t)
+
+  pad-wrong : padZeros ≡ false → (n form (drop at bs) % 2 ≡ 1) × (padByte ≢ 0)
+  pad-wrong t = go (decLe 1 (n form (drop at bs) % 2))
+    where
+      go : Dec (1 ≤ n form (drop at bs) % 2) → (n form (drop at bs) % 2 ≡ 1) × (padByte ≢ 0)
+      go (yes h) = let odd : n form (drop at bs) % 2 ≡ 1 = omega arith in (odd, eqb-false padByte 0 (sym (pad-odd odd) ∙ t))
+      go (no h) = absurd (false≢true (sym t ∙ pad-even (omega arith)))
+
+module _ (sh : Shape) (bs : List ℕ) (at : ℕ) (within : at ≤ length bs) where
+  abbrev rest : List ℕ
+  rest = drop at bs
+
+  abbrev InTime : ℕ → Type 0
+  InTime = TimeBy (sh .rule)
+
+  left : length bs ≡ at + length rest
+  left = omega (arith, within, length-drop at bs)
+
+  long : blockEnd (headAt (sh .form) bs at) ≤ length bs → size (sh .form) rest ≤ length rest
+  long h = omega (arith, left, size-is (sh .form) bs at)
+
+  -- the first test that a block fails is for the lowest rule that it breaks
+  each-lowest : EachReason sh bs at (headAt (sh .form) bs at) (Lowest InTime (sh .form) rest)
+  each-lowest =
+      let form = sh .form in
+      let rule = sh .rule in
+      let below = none-below InTime form rest in
       record {
-        entry = entryAt bs m;
-        behind = drop next bs;
-        is = ap (drop at) split ∙ drop-at (take at bs) (b ++ drop next bs) at (length-take-le at bs within);
-        right = found-fits sh bs at m next raw found;
+        none = λ h. (ends (omega (arith, left)), none-left InTime form rest (omega (arith, left)));
+        head =
+            λ some short. (
+              headCut (omega (arith, left)) (omega (arith, left, stamp-is form)),
+              below 2 (λ h. absurd (omega arith)) (λ h. absurd (omega arith)) (λ h. absurd (omega arith)) (λ h. absurd (omega arith)),
+            );
+        short =
+            λ head short. (
+              bytesCut (omega (arith, left, stamp-is form)) (omega (arith, left, size-is form bs at)),
+              below 2 (λ h. absurd (omega arith)) (λ h. absurd (omega arith)) (λ h. absurd (omega arith)) (λ h. absurd (omega arith)),
+            );
+        time =
+            λ fits out.
+            let wrong = timed-wrong rule bs at form out in (
+              time (long fits) (wrong .0) (wrong .1),
+              below 3 (λ h. long fits) (λ h. absurd (omega arith)) (λ h. absurd (omega arith)) (λ h. absurd (omega arith)),
+            );
+        empty =
+            λ fits in-form z. (
+              empty (long fits) (sym (n-is form bs at) ∙ z),
+              below 4 (λ h. long fits) (λ h. timed-right rule bs at form in-form) (λ h. absurd (omega arith)) (λ h. absurd (omega arith)),
+            );
+        pad =
+            λ fits in-form some other.
+            let wrong = pad-wrong form bs at other in (
+              pad (long fits) (wrong .0) (wrong .1),
+              below 5 (λ h. long fits) (λ h. timed-right rule bs at form in-form) (λ h z. some (n-is form bs at ∙ z)) (λ h. absurd (omega arith)),
+            );
       }
+
+  -- a block that the walk finds breaks none
+  found-none : (m : Message) (next : ℕ) → blockAt sh bs at ≡ Found m next → (reason : ℕ) → ¬ Breaks InTime (sh .form) rest reason
+  found-none m next found reason =
+      let form = sh .form in
+      let s = found-stands sh bs at m next found in
+      let is = s .says in
+      let fits : blockEnd (headAt form bs at) ≤ length bs = rw (← is) (omega (arith, s .next-is, s .fits)) in
+      none-below InTime form rest (suc reason) (λ h. long fits) (λ h. timed-right (sh .rule) bs at form (rw (← is) (s .time-ok)))
+      (λ h z. omega (arith, s .some, ap (λ (x : Message). x .length) is, n-is form bs at, z)) (λ h. pad-right form bs at (rw (← is) (s .pad)))
+      reason (omega arith)
 
 -- the walk goes on exactly where a block is due
 module _ (form : Form) (rule : TimeRule) (len k at : ℕ) (rest : List ℕ) (l : len ≡ at + length rest) where
@@ -106,6 +247,10 @@ due-within toTheEnd k rest due c = absurd (false≢true c)
 
 -- ---- from the refusal to the place
 
+-- a body is at fault as its refusal says: at its place, and for its reason
+abbrev pub FaultOf : ℕ → TimeRule → List ℕ → Refusal → Type 0
+FaultOf kind rule bs r = AtFault kind (RightBy rule) (TimeBy rule) bs (r .place) (r .reason)
+
 module _ (kind : ℕ) (rule : TimeRule) (bs : List ℕ) (form : Form) (asked : Asked) (raw : Bytes bs) (long : 4 ≤ length bs)
     (right-word : ChannelWord kind (field bs 0 4) form asked) (r : Refusal) where
   abbrev sh : Shape
@@ -129,44 +274,49 @@ module _ (kind : ℕ) (rule : TimeRule) (bs : List ℕ) (form : Form) (asked : A
         omega (arith, l, four, ap length (come .is), length-append (take 4 bs) blocks),
       )
 
-  module _ (k at : ℕ) (w : Walking sh bs k at) (come : Come sh bs k at) (is : FaultAt at r) where
+  module _ (k at : ℕ) (w : Walking sh bs k at) (come : Come sh bs k at) where
     abbrev before : List Entry
     before = tab k (entryOn sh bs)
 
-    here : r .place ≡ 4 + length (blocksBytes form before)
-    here = fault-place at r is ∙ come-begins k at (w .2) come .1
+    behind : length bs ≡ at + length (drop at bs)
+    behind = left sh bs at (w .2)
 
-    left : length bs ≡ at + length (drop at bs)
-    left = omega (arith, w .2, length-drop at bs)
+    -- a fault at this place, for this reason, is the refusal's
+    there : (reason : ℕ) → r ≡ fault at reason → AtFault kind (RightBy rule) (TimeBy rule) bs (4 + length (blocksBytes form before)) reason → FaultOf kind rule bs r
+    there reason is fault-there =
+        let p : r .place ≡ 4 + length (blocksBytes form before) = ap (λ (x : Refusal). x .place) is ∙ come-begins k at (w .2) come .1 in
+        let q : r .reason ≡ reason = ap (λ (x : Refusal). x .reason) is in
+        rw (p, q) fault-there
 
-    broken-fault : (f : Refusal) → stopAt sh (length bs) k at ≡ false → blockAt sh bs at ≡ Broken f → AtFault kind (RightBy rule) bs (r .place)
-    broken-fault f s b =
-        let due = going-due form rule (length bs) k at (drop at bs) left asked s in
-        rw here (block (come-begins k at (w .2) come .0) (rw (length-tab k (entryOn sh bs)) due) (broken-wrong sh bs at f (w .2) b))
+    broken-fault : stopAt sh (length bs) k at ≡ false → blockAt sh bs at ≡ Broken r → FaultOf kind rule bs r
+    broken-fault s b =
+        let due = going-due form rule (length bs) k at (drop at bs) behind asked s in
+        let f = broken-for sh bs at (Lowest (TimeBy rule) form (drop at bs)) (each-lowest sh bs at (w .2)) r b in
+        there (r .reason) (f .0) (block (come-begins k at (w .2) come .0) (rw (length-tab k (entryOn sh bs)) due) (f .1))
 
-    over-fault : stopAt sh (length bs) k at ≡ true → at ≢ length bs → AtFault kind (RightBy rule) bs (r .place)
-    over-fault s short =
-        let more : 1 ≤ length (drop at bs) = omega (arith, left) in
-        let all = stopped-over form rule (length bs) k at (drop at bs) left asked s more in
+    over-fault : stopAt sh (length bs) k at ≡ true → r ≡ fault at 6 → at ≢ length bs → FaultOf kind rule bs r
+    over-fault s is short =
+        let more : 1 ≤ length (drop at bs) = omega (arith, behind) in
+        let all = stopped-over form rule (length bs) k at (drop at bs) behind asked s more in
         let counted : countedBy asked ≡ true = ap countedBy (all .0) in
         let n : length before ≡ countBy asked = omega (arith, length-tab k (entryOn sh bs), all .1, come .within counted) in
         let begins = subst (λ (a : Asked). Begins kind (RightBy rule) bs form a before (drop at bs)) (all .0) (come-begins k at (w .2) come .0) in
-        rw here (over begins n more)
+        there 6 is (over begins n more)
 
-  fault-from : (f k at : ℕ) → length bs < f + k → Walking sh bs k at → Come sh bs k at → walkFrom sh bs f k ≡ Faulty r → AtFault kind (RightBy rule) bs (r .place)
+  fault-from : (f k at : ℕ) → length bs < f + k → Walking sh bs k at → Come sh bs k at → walkFrom sh bs f k ≡ Faulty r → FaultOf kind rule bs r
   fault-from zero k at enough w come e = absurd (omega arith)
   fault-from (suc f) k at enough w come e =
       go (stopAt sh (length bs) k at) refl (blockAt sh bs at) refl (λ next. fault-from f (k + 1) next (omega arith))
     where
       go : (b : Bool) → stopAt sh (length bs) k at ≡ b → (x : Block) → blockAt sh bs at ≡ x
-          → ((next : ℕ) → Walking sh bs (k + 1) next → Come sh bs (k + 1) next → walkFrom sh bs f (k + 1) ≡ Faulty r → AtFault kind (RightBy rule) bs (r .place))
-          → AtFault kind (RightBy rule) bs (r .place)
+          → ((next : ℕ) → Walking sh bs (k + 1) next → Come sh bs (k + 1) next → walkFrom sh bs f (k + 1) ≡ Faulty r → FaultOf kind rule bs r)
+          → FaultOf kind rule bs r
       go true s x b rest =
           let p = ending-faulty (length bs) k at r (sym (walk-stop sh bs (suc f) k at (w .0) (omega arith) s) ∙ e) in
-          over-fault k at w come (p .0) s (p .1)
+          over-fault k at w come s (p .0) (p .1)
       go false s (Broken x) b rest =
           let same : x ≡ r = cc (sym (walk-broken sh bs (suc f) k at (w .0) (omega arith) x s b) ∙ e) in
-          broken-fault k at w come (subst (FaultAt at) same (broken-at sh bs at x b)) x s b
+          broken-fault k at w come s (b ∙ ap Broken same)
       go false s (Found m next) b rest =
           let pf : suc f - 1 ≡ f = omega arith in
           rest next (walking-next sh bs k at m next w b) (come-next sh bs k at m next raw w s b come)
@@ -182,35 +332,36 @@ wrong-opened kind rule bs e = go (opens kind) refl
     go false o = let z : _≡_ {A = ℕ} 0 1 = cc (rw o at e) in absurd (omega arith)
 
 -- a channel word that opens to nothing is cut short or wrong
-word-fault : (kind : ℕ) (rule : TimeRule) (bs : List ℕ) → openBody kind rule bs ≡ Wrong → AtFault kind (RightBy rule) bs 0
+word-fault : (kind : ℕ) (rule : TimeRule) (bs : List ℕ) → openBody kind rule bs ≡ Wrong → AtFault kind (RightBy rule) (TimeBy rule) bs 0 1
 word-fault kind rule bs e = go (decLe 4 (length bs))
   where
-    go : Dec (4 ≤ length bs) → AtFault kind (RightBy rule) bs 0
+    go : Dec (4 ≤ length bs) → AtFault kind (RightBy rule) (TimeBy rule) bs 0 1
     go (yes h) =
         word (wrong-opened kind rule bs e) h λ form asked w.
         let z : _≡_ {A = ℕ} 0 1 = cc (word-made kind rule bs form asked h w, e) in omega arith
     go (no h) = cut (wrong-opened kind rule bs e) (omega arith)
 
--- a body that is refused is at fault at the place given
-pub fault-at : (kind : ℕ) (rule : TimeRule) (bs : List ℕ) (r : Refusal) → Bytes bs → checkBody kind rule bs ≡ Faulty r
-    → AtFault kind (RightBy rule) bs (r .place)
+-- a body that is refused is at fault at the place given, for the reason given
+pub fault-at : (kind : ℕ) (rule : TimeRule) (bs : List ℕ) (r : Refusal) → Bytes bs → checkBody kind rule bs ≡ Faulty r → FaultOf kind rule bs r
 unfolding checkBody walk
 fault-at kind rule bs r raw e = go (openBody kind rule bs) refl e
   where
-    go : (o : Opened) → openBody kind rule bs ≡ o → checkOpened o bs ≡ Faulty r → AtFault kind (RightBy rule) bs (r .place)
+    go : (o : Opened) → openBody kind rule bs ≡ o → checkOpened o bs ≡ Faulty r → FaultOf kind rule bs r
     go Carried q h = let z : _≡_ {A = ℕ} 0 1 = cc in absurd (omega arith)
     go (Shaped sh) q h =
         let (long, (asked, w, is)) = word-says kind rule bs sh q in
         let s = shapeOf (sh .form) asked rule in
         fault-from kind rule bs (sh .form) asked raw long w r (length bs + 1) 0 4 (omega arith) (walking-first s bs long) (come-first s bs)
         (subst (λ (x : Shape). walk x bs ≡ Faulty r) is h)
-    go Wrong q h = let p : r .place ≡ 0 = cc in rw p (word-fault kind rule bs q)
+    go Wrong q h =
+        let is : fault 0 1 ≡ r = cc in
+        subst (FaultOf kind rule bs) is (word-fault kind rule bs q)
 
 -- ---- from the place to the refusal
 
--- a body is refused at this place
-abbrev pub RefusedAt : ℕ → TimeRule → List ℕ → ℕ → Type 0
-RefusedAt kind rule bs a = (r : Refusal) × (checkBody kind rule bs ≡ Faulty r) × (r .place ≡ a)
+-- a body is refused at this place, for this reason
+abbrev pub RefusedAt : ℕ → TimeRule → List ℕ → ℕ → ℕ → Type 0
+RefusedAt kind rule bs a reason = checkBody kind rule bs ≡ Faulty (fault a reason)
 
 -- the walk comes to the end of right blocks, where it does not stop among them
 come-along : (sh : Shape) (bs rest : List ℕ) (es : List Entry) (front : List ℕ) (k : ℕ) → bs ≡ front ++ (blocksBytes (sh .form) es ++ rest)
@@ -260,25 +411,29 @@ module _ (kind : ℕ) (rule : TimeRule) (bs : List ℕ) (form : Form) (asked : A
       let split : bs ≡ take 4 bs ++ blocks ++ rest = b .is ∙ sym (append-assoc (take 4 bs) blocks rest) in
       (omega (arith, l, ap length split, length-append (take 4 bs ++ blocks) rest), ap (drop place) split ∙ drop-at (take 4 bs ++ blocks) rest place l)
 
-  begins-block : Bytes bs → Due asked (length es) rest → ¬ RightBlock (RightBy rule) form rest → RefusedAt kind rule bs place
-  begins-block raw due wrong = let (r, is, at) = go (blockAt its-shape bs place) refl in (r, check-shaped kind rule bs its-shape opened ∙ is, at)
+  begins-block : (reason : ℕ) → Due asked (length es) rest → Lowest (TimeBy rule) form rest reason → RefusedAt kind rule bs place reason
+  begins-block reason due lowest = check-shaped kind rule bs its-shape opened ∙ go (blockAt its-shape bs place) refl
     where
       on : stopAt its-shape (length bs) (length es) place ≡ false
       on = due-going form rule (length bs) (length es) place rest (begins-left .0) asked due
 
-      go : (x : Block) → blockAt its-shape bs place ≡ x → (r : Refusal) × (walk its-shape bs ≡ Faulty r) × (r .place ≡ place)
-      go (Broken r) e = (r, counting-broken its-shape bs (length es) place begins-come r on e, fault-place place r (broken-at its-shape bs place r e))
-      go (Found m next) e = absurd (wrong (rw (begins-left .1) at (found-right its-shape bs place m next raw (omega (arith, begins-left .0)) e)))
+      in-body : place ≤ length bs
+      in-body = omega (arith, begins-left .0)
 
-  begins-over : countedBy asked ≡ true → length es ≡ countBy asked → 1 ≤ length rest → RefusedAt kind rule bs place
+      go : (x : Block) → blockAt its-shape bs place ≡ x → walk its-shape bs ≡ Faulty (fault place reason)
+      go (Broken r) e =
+          let f = rw (begins-left .1) at (broken-for its-shape bs place (Lowest (TimeBy rule) form (drop place bs)) (each-lowest its-shape bs place in-body) r e) in
+          counting-broken its-shape bs (length es) place begins-come r on e
+          ∙ ap Faulty (f .0 ∙ ap (fault place) (lowest-once (TimeBy rule) form rest (r .reason) reason (f .1) lowest))
+      go (Found m next) e = absurd (rw (begins-left .1) at (found-none its-shape bs place in-body m next e reason) (lowest .0))
+
+  begins-over : countedBy asked ≡ true → length es ≡ countBy asked → 1 ≤ length rest → RefusedAt kind rule bs place 6
   unfolding stopAt
   begins-over c n more =
-      let stop : stopAt its-shape (length bs) (length es) place ≡ true = rw c (le-leb (countBy asked) (length es) (omega arith)) in (
-        _,
-        check-shaped kind rule bs its-shape opened ∙ counting-stop its-shape bs (length es) place begins-come stop
-            ∙ ending-over (length bs) (length es) place (λ e. omega (arith, begins-left .0)),
-        refl,
-      )
+      let stop : stopAt its-shape (length bs) (length es) place ≡ true = rw c (le-leb (countBy asked) (length es) (omega arith)) in
+      check-shaped kind rule bs its-shape opened
+      ∙ counting-stop its-shape bs (length es) place begins-come stop
+      ∙ ending-over (length bs) (length es) place (λ e. omega (arith, begins-left .0))
 
 -- a channel word that is cut short, or wrong, opens to nothing
 cut-wrong : (kind : ℕ) (rule : TimeRule) (bs : List ℕ) → OpenedType kind → length bs < 4 → openBody kind rule bs ≡ Wrong
@@ -294,32 +449,32 @@ word-wrong kind rule bs o none = go (openBody kind rule bs) refl
     go (Shaped sh) q = let (long, (asked, w, is)) = word-says kind rule bs sh q in absurd (none (sh .form) asked w)
     go Wrong q = refl
 
-wrong-refused : (kind : ℕ) (rule : TimeRule) (bs : List ℕ) → openBody kind rule bs ≡ Wrong → RefusedAt kind rule bs 0
+wrong-refused : (kind : ℕ) (rule : TimeRule) (bs : List ℕ) → openBody kind rule bs ≡ Wrong → RefusedAt kind rule bs 0 1
 unfolding checkBody
-wrong-refused kind rule bs wrong = (fault 0, simp wrong, refl)
+wrong-refused kind rule bs wrong = simp wrong
 
--- a body that is at fault is refused there
-pub at-fault : (kind : ℕ) (rule : TimeRule) (bs : List ℕ) (a : ℕ) → Bytes bs → AtFault kind (RightBy rule) bs a → RefusedAt kind rule bs a
-at-fault kind rule bs a raw (cut o short) = wrong-refused kind rule bs (cut-wrong kind rule bs o short)
-at-fault kind rule bs a raw (word o long none) = wrong-refused kind rule bs (word-wrong kind rule bs o none)
-at-fault kind rule bs a raw (block {form} {asked} {es} {rest} b due wrong) =
-    begins-block kind rule bs form asked es rest b (due-within asked (length es) rest due) raw due wrong
-at-fault kind rule bs a raw (over {form} {count} {es} {rest} b n more) =
+-- a body that is at fault is refused there, for that reason
+pub at-fault : (kind : ℕ) (rule : TimeRule) (bs : List ℕ) (a reason : ℕ) → AtFault kind (RightBy rule) (TimeBy rule) bs a reason → RefusedAt kind rule bs a reason
+at-fault kind rule bs a reason (cut o short) = wrong-refused kind rule bs (cut-wrong kind rule bs o short)
+at-fault kind rule bs a reason (word o long none) = wrong-refused kind rule bs (word-wrong kind rule bs o none)
+at-fault kind rule bs a reason (block {form} {asked} {es} {rest} b due lowest) =
+    begins-block kind rule bs form asked es rest b (due-within asked (length es) rest due) reason due lowest
+at-fault kind rule bs a reason (over {form} {count} {es} {rest} b n more) =
     begins-over kind rule bs form (exactly count) es rest b (λ c. omega arith) refl n more
 
 -- both ways
-pub fault-exactly : (kind : ℕ) (rule : TimeRule) (bs : List ℕ) (a : ℕ) → Bytes bs → RefusedAt kind rule bs a ↔ AtFault kind (RightBy rule) bs a
-fault-exactly kind rule bs a raw = (λ (r, is, at). rw at at (fault-at kind rule bs r raw is), at-fault kind rule bs a raw)
+pub fault-exactly : (kind : ℕ) (rule : TimeRule) (bs : List ℕ) (a reason : ℕ) → Bytes bs
+    → RefusedAt kind rule bs a reason ↔ AtFault kind (RightBy rule) (TimeBy rule) bs a reason
+fault-exactly kind rule bs a reason raw = (fault-at kind rule bs (fault a reason) raw, at-fault kind rule bs a reason)
 
--- a body is at fault at one place
-pub fault-once : (kind : ℕ) (rule : TimeRule) (bs : List ℕ) (a b : ℕ) → Bytes bs → AtFault kind (RightBy rule) bs a → AtFault kind (RightBy rule) bs b → a ≡ b
-fault-once kind rule bs a b raw at-a at-b =
-    let (r, is-r, r-at) = at-fault kind rule bs a raw at-a in
-    let (q, is-q, q-at) = at-fault kind rule bs b raw at-b in
-    let same : r ≡ q = cc (sym is-r ∙ is-q) in
-    sym r-at ∙ ap (λ (x : Refusal). x .place) same ∙ q-at
+-- a body is at fault at one place, for one reason
+pub fault-once : (kind : ℕ) (rule : TimeRule) (bs : List ℕ) (a b r s : ℕ) → AtFault kind (RightBy rule) (TimeBy rule) bs a r
+    → AtFault kind (RightBy rule) (TimeBy rule) bs b s → (a ≡ b) × (r ≡ s)
+fault-once kind rule bs a b r s at-a at-b =
+    let same : fault a r ≡ fault b s = cc (sym (at-fault kind rule bs a r at-a) ∙ at-fault kind rule bs b s at-b) in
+    (ap (λ (x : Refusal). x .place) same, ap (λ (x : Refusal). x .reason) same)
 
--- ---- said of other words for what it is to be a right block
+-- ---- said of other words for what it is to be a right block, and a time in form
 
 module _ (Right Other : Form → Entry → Type 0) (to : (form : Form) (e : Entry) → Right form e → Other form e) where
   pub each-other : (form : Form) (es : List Entry) → Each (Right form) es → Each (Other form) es
@@ -330,13 +485,23 @@ module _ (Right Other : Form → Entry → Type 0) (to : (form : Form) (e : Entr
       → Begins kind Right bs form asked es rest → Begins kind Other bs form asked es rest
   begins-other {form = form} {es = es} b = record { long = b .long; word = b .word; is = b .is; right = each-other form es (b .right) }
 
-  block-other : {form : Form} {rest : List ℕ} → RightBlock Right form rest → RightBlock Other form rest
-  block-other {form} b = record { entry = b .entry; behind = b .behind; is = b .is; right = to form (b .entry) (b .right) }
+breaks-other : (InForm Other : ℕ → Type 0) → ((t : ℕ) → Other t → InForm t) → (form : Form) (rest : List ℕ) (reason : ℕ)
+    → Breaks InForm form rest reason → Breaks Other form rest reason
+breaks-other InForm Other from form rest reason (headCut begun short) = headCut begun short
+breaks-other InForm Other from form rest reason (bytesCut head short) = bytesCut head short
+breaks-other InForm Other from form rest reason (time whole is out) = time whole is (λ t. out (from (field rest 0 8) t))
+breaks-other InForm Other from form rest reason (empty whole z) = empty whole z
+breaks-other InForm Other from form rest reason (pad whole odd other) = pad whole odd other
+breaks-other InForm Other from form rest reason (ends z) = ends z
 
-pub fault-other : (Right Other : Form → Entry → Type 0) → ((form : Form) (e : Entry) → Right form e ↔ Other form e)
-    → (kind : ℕ) (bs : List ℕ) (a : ℕ) → AtFault kind Right bs a → AtFault kind Other bs a
-fault-other Right Other same kind bs a (cut o short) = cut o short
-fault-other Right Other same kind bs a (word o long none) = word o long none
-fault-other Right Other same kind bs a (block b due wrong) =
-    block (begins-other Right Other (λ form e. same form e .0) b) due (λ right. wrong (block-other Other Right (λ form e. same form e .1) right))
-fault-other Right Other same kind bs a (over b n more) = over (begins-other Right Other (λ form e. same form e .0) b) n more
+pub fault-other : (Right Other : Form → Entry → Type 0) → ((form : Form) (e : Entry) → Right form e → Other form e)
+    → (InForm Timed : ℕ → Type 0) → ((t : ℕ) → InForm t ↔ Timed t)
+    → (kind : ℕ) (bs : List ℕ) (a reason : ℕ) → AtFault kind Right InForm bs a reason → AtFault kind Other Timed bs a reason
+fault-other Right Other to InForm Timed same kind bs a reason (cut o short) = cut o short
+fault-other Right Other to InForm Timed same kind bs a reason (word o long none) = word o long none
+fault-other Right Other to InForm Timed same kind bs a reason (block {form} {asked} {es} {rest} b due lowest) =
+    block (begins-other Right Other to b) due (
+      breaks-other InForm Timed (λ t. same t .1) form rest reason (lowest .0),
+      λ lower less broken. lowest .1 lower less (breaks-other Timed InForm (λ t. same t .0) form rest lower broken),
+    )
+fault-other Right Other to InForm Timed same kind bs a reason (over b n more) = over (begins-other Right Other to b) n more

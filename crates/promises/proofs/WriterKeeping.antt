@@ -9,6 +9,7 @@ use native.Mathlib.Decide.{decLe}
 use lib.ListN.{length}
 use lib.Dec.{T, eqb, ltb, leb}
 use borrow.Author.Tests.{eqb-true, eqb-false, ltb-true, ltb-false, leb-true, le-leb, lt-leb}
+use Rattle.units.specs.Units.{Bytes}
 use Rattle.units.specs.Choice.{pick}
 use Rattle.terms.specs.Refusals.{refused, needing, placed}
 use Rattle.terms.specs.Times.{ruleOf}
@@ -31,10 +32,11 @@ use Rattle.packet.proofs.Writes.{range-says, range-made}
 use Rattle.promises.specs.Refusals.{OneOf, writerRefusals}
 use Rattle.promises.specs.Contents.{Typed}
 use Rattle.promises.specs.Endings.{Ends, writtenTold}
+use Rattle.promises.specs.Bodies.{BodyAtFault}
 use Rattle.promises.specs.WriterKeeps.{LengthOf, WriterRule, ranged, version, defined, flagged, channel, lengths, secondary, messages, roomy, WriterKeeps}
 use Rattle.promises.proofs.Members.{among-one, one-among, one-ahead}
 use Rattle.promises.proofs.NumbersKept.{version-exactly, type-made, type-says, flags-exactly, channel-exactly, lengths-exactly, length-one, time-exactly}
-use Rattle.promises.proofs.BodiesKept.{bodyPasses, messages-pass, messages-say}
+use Rattle.promises.proofs.BodiesKept.{bodyPasses, messages-pass, messages-say, fault-kept}
 use Rattle.promises.proofs.Refusing.{numbers, first-one, Tested, last, tests, kept-all, all-kept, first-exactly}
 use Rattle.promises.proofs.Writer.{refusal-says}
 
@@ -155,18 +157,18 @@ ruledNumbers = 17 ∷ 5 ∷ 6 ∷ 7 ∷ 8 ∷ 9 ∷ 12 ∷ []
 -- what the writer may answer
 data Outcome (c : Contents) : PacketWrite → Type 0 where
   ruled : (n : ℕ) → OneOf n ruledNumbers → Outcome c (Unwritten (refused n 0))
-  faulty : (r : Refusal) → r .number ≡ 15 → r .room ≡ 0 → Outcome c (Unwritten (placed 0 r))
+  faulty : (r : Refusal) → contentsChecked c ≡ Faulty r → Outcome c (Unwritten (placed 0 r))
   short : LengthOf c (contentsLength c) → Outcome c (Unwritten (needing (contentsLength c) (refused 16 0)))
   fits : LengthOf c (contentsLength c) → Outcome c (Written (contentsLength c))
 
-fitted-outcome : (c : Contents) (room : ℕ) → LengthOf c (contentsLength c) → (x : Checked) → Says15 x → Outcome c (fitted x (contentsLength c) room)
+fitted-outcome : (c : Contents) (room : ℕ) → LengthOf c (contentsLength c) → (x : Checked) → contentsChecked c ≡ x → Outcome c (fitted x (contentsLength c) room)
 unfolding fitted
-fitted-outcome c room long (Counted k) right = go (ltb room (contentsLength c))
+fitted-outcome c room long (Counted k) q = go (ltb room (contentsLength c))
   where
     go : (t : Bool) → Outcome c (pick t (Unwritten (needing (contentsLength c) (refused 16 0))) (Written (contentsLength c)))
     go true = short long
     go false = fits long
-fitted-outcome c room long (Faulty r) right = faulty r (right r refl .0) (right r refl .1)
+fitted-outcome c room long (Faulty r) q = faulty r q
 
 -- 0, or a number of its table's
 named : (f : Fields) (d : ℕ) → OneOf (writerRefusal f d) (0 ∷ ruledNumbers)
@@ -181,43 +183,56 @@ outcome c room = go (writerRefusal (c .fields) (length (c .body))) refl (eqb (wr
         → Outcome c (pick (not t) (Unwritten (refused n 0)) (fitted (contentsChecked c) (contentsLength c) room))
     go n is true q =
         let v = refusal-says c (sym is ∙ eqb-true n 0 q) .2 in
-        fitted-outcome c room (lengths-exactly (c .fields .kind) (c .fields .flags) (contentsLength c) (length (c .body)) .0 (v .lengthsOk)) (contentsChecked c) (given-15 c)
+        fitted-outcome c room (lengths-exactly (c .fields .kind) (c .fields .flags) (contentsLength c) (length (c .body)) .0 (v .lengthsOk)) (contentsChecked c) refl
     go n is false q = ruled n (rw is (⊎-elim (λ z. absurd (eqb-false n 0 q (is ∙ z))) (λ o. o) (named (c .fields) (length (c .body)))))
 
 module _ (c : Contents) where
   ends : {x : PacketWrite} → Outcome c x → Ends writerRefusals writtenTold 0 (writeTold x)
   ends (ruled n o) = inr (refused n 0, refl, one-ahead n ruledNumbers (15 ∷ 16 ∷ []) o)
-  ends (faulty r number room) = inr (placed 0 r, refl, rw number (among-one 15 writerRefusals refl))
+  ends (faulty r q) = inr (placed 0 r, refl, rw (given-15 c r q .0) (among-one 15 writerRefusals refl))
   ends (short long) = inr (needing (contentsLength c) (refused 16 0), refl, among-one 16 writerRefusals refl)
   ends (fits long) = inl (contentsLength c, refl)
 
   places : {x : PacketWrite} → Outcome c x → writeTold x .refusal .place ≡ 0
   places (ruled n o) = refl
-  places (faulty r number room) = refl
+  places (faulty r q) = refl
   places (short long) = refl
   places (fits long) = refl
 
   rooms : {x : PacketWrite} → Outcome c x → writeTold x .refusal .number ≡ 16 → LengthOf c (writeTold x .refusal .room)
   rooms (ruled n o) e = absurd (false≢true (one-among 16 ruledNumbers (rw e at o)))
-  rooms (faulty r number room) e = absurd (omega (arith, number, e))
+  rooms (faulty r q) e = absurd (omega (arith, given-15 c r q .0, e))
   rooms (short long) e = long
   rooms (fits long) e = absurd (omega (arith, e))
 
   no-rooms : {x : PacketWrite} → Outcome c x → writeTold x .refusal .number ≢ 16 → writeTold x .refusal .room ≡ 0
   no-rooms (ruled n o) e = refl
-  no-rooms (faulty r number room) e = room
+  no-rooms (faulty r q) e = given-15 c r q .1
   no-rooms (short long) e = absurd (e refl)
   no-rooms (fits long) e = refl
 
+  reasons : Bytes (c .body) → {x : PacketWrite} → Outcome c x → writeTold x .refusal .number ≡ 15
+      → (at : ℕ) × BodyAtFault (c .fields .kind) (c .fields .flags) (c .body) at (writeTold x .refusal .reason)
+  reasons raw (ruled n o) e = absurd (false≢true (one-among 15 ruledNumbers (rw e at o)))
+  reasons raw (faulty r q) e = (r .place, fault-kept (c .fields .kind) (c .fields .flags) (c .body) r raw q)
+  reasons raw (short long) e = absurd (omega (arith, e))
+  reasons raw (fits long) e = absurd (omega (arith, e))
+
+  no-reasons : {x : PacketWrite} → Outcome c x → writeTold x .refusal .number ≢ 15 → writeTold x .refusal .reason ≡ 0
+  no-reasons (ruled n o) e = refl
+  no-reasons (faulty r q) e = absurd (e (given-15 c r q .0))
+  no-reasons (short long) e = refl
+  no-reasons (fits long) e = refl
+
   long-told : {x : PacketWrite} → Outcome c x → writeTold x .refusal .number ≡ 0 → LengthOf c (writeTold x .length) × (writeTold x .length ≡ contentsLength c)
   long-told (ruled n o) e = absurd (false≢true (one-among 0 ruledNumbers (rw e at o)))
-  long-told (faulty r number room) e = absurd (omega (arith, number, e))
+  long-told (faulty r q) e = absurd (omega (arith, given-15 c r q .0, e))
   long-told (short long) e = absurd (omega (arith, e))
   long-told (fits long) e = (long, refl)
 
   written : {x : PacketWrite} → Outcome c x → writeTold x .refusal .number ≡ 0 → x ≡ Written (writeTold x .length)
   written (ruled n o) e = absurd (false≢true (one-among 0 ruledNumbers (rw e at o)))
-  written (faulty r number room) e = absurd (omega (arith, number, e))
+  written (faulty r q) e = absurd (omega (arith, given-15 c r q .0, e))
   written (short long) e = absurd (omega (arith, e))
   written (fits long) e = refl
 
@@ -236,6 +251,13 @@ module _ (c : Contents) where
 
     pub write-no-room : writeTold (writePacket c room) .refusal .number ≢ 16 → writeTold (writePacket c room) .refusal .room ≡ 0
     write-no-room = no-rooms (outcome c room)
+
+    pub write-fault : Typed c → writeTold (writePacket c room) .refusal .number ≡ 15
+        → (at : ℕ) × BodyAtFault (c .fields .kind) (c .fields .flags) (c .body) at (writeTold (writePacket c room) .refusal .reason)
+    write-fault typed = reasons (typed .body) (outcome c room)
+
+    pub write-no-fault : writeTold (writePacket c room) .refusal .number ≢ 15 → writeTold (writePacket c room) .refusal .reason ≡ 0
+    write-no-fault = no-reasons (outcome c room)
 
     pub write-length : writeTold (writePacket c room) .refusal .number ≡ 0
         → LengthOf c (writeTold (writePacket c room) .length) × (writeTold (writePacket c room) .length ≡ contentsLength c)

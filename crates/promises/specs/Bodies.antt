@@ -52,6 +52,6 @@ abbrev pub MessagesKept : ℕ → ℕ → List ℕ → Type 0
 MessagesKept kind flags bs = OneOf kind openedTypes → (es : List Entry) × BodyKept kind flags bs es
 
 -- and where it does not, the place of the fault, counted from its first byte: the channel word, the first byte of the block at fault or of the
--- bytes left over, or where a missing block should begin
-abbrev pub BodyAtFault : ℕ → ℕ → List ℕ → ℕ → Type 0
-BodyAtFault kind flags bs at = AtFault kind (BlockKept flags) bs at
+-- bytes left over, or where a missing block should begin; and the rule that it breaks there, by its reason
+abbrev pub BodyAtFault : ℕ → ℕ → List ℕ → ℕ → ℕ → Type 0
+BodyAtFault kind flags bs at reason = AtFault kind (BlockKept flags) (TimeInForm flags) bs at reason

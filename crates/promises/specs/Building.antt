@@ -45,9 +45,17 @@ pub record InForm (rule time : ℕ) : Type 0 where
   -- the secondary time rule of a format
   pub absolute : (code : ℕ) → rule ≡ 2 + code → InFormat code time
 
--- an answer: its number, place 0, the room needed, and the state that is handed back. Written out: no definition of a refusal is cited
+-- an answer: its number, place 0, the room needed, its reason, and the state that is handed back. Written out: no definition of a refusal is cited
+abbrev pub tells : ℕ → ℕ → ℕ → Draft → StepTold
+tells number room reason d = record { refusal = record { number = number; place = 0; room = room; reason = reason }; draft = d }
+
+-- an answer that is not 15 has reason 0
 abbrev pub says : ℕ → ℕ → Draft → StepTold
-says number room d = record { refusal = record { number = number; place = 0; room = room }; draft = d }
+says number room d = tells number room 0 d
+
+-- 15, for this reason
+abbrev pub faults : ℕ → Draft → StepTold
+faults reason d = tells 15 0 reason d
 
 -- the used count with a block of n bytes more: a time stamp of 8 bytes where there is a rule, an ID word of 4, then n bytes, then one pad
 -- byte if n is odd
@@ -84,9 +92,9 @@ pub record Building : Type 0 where
   pub add-1 : (d : Draft) (len time n : ℕ) → ¬ SoundDraft d len → stepTold (addStep d len time n) ≡ says 1 0 d
   -- "then 17 for n outside 1 to 65,535 or a 65,536th block in 0x30"
   pub add-17 : (d : Draft) (len time n : ℕ) → SoundDraft d len → ¬ Takes d n → stepTold (addStep d len time n) ≡ says 17 0 d
-  -- "then 15 for a time out of form"
+  -- "then 15 for a time out of form"; 02 §2: "3 time"
   pub add-15 : (d : Draft) (len time n : ℕ) → SoundDraft d len → Takes d n → 0 < d .rule → ¬ InForm (d .rule) time
-      → stepTold (addStep d len time n) ≡ says 15 0 d
+      → stepTold (addStep d len time n) ≡ faults 3 d
   -- "(and 17 for a time that isn't zero where none is stored)"
   pub add-stray : (d : Draft) (len time n : ℕ) → SoundDraft d len → Takes d n → d .rule ≡ 0 → time ≢ 0
       → stepTold (addStep d len time n) ≡ says 17 0 d
@@ -98,8 +106,8 @@ pub record Building : Type 0 where
       → stepTold (addStep d len time n) ≡ says 0 0 (record { used = grownTo d n; blocks = (d .blocks + 1) % 2 ^ 64; kind = d .kind; rule = d .rule })
   -- Closing: "1"
   pub close-1 : (d : Draft) (len : ℕ) → ¬ SoundDraft d len → stepTold (closeStep d len) ≡ says 1 0 d
-  -- "then 15 where the used count is 4 (no block)"
-  pub close-15 : (d : Draft) (len : ℕ) → SoundDraft d len → d .used ≡ 4 → stepTold (closeStep d len) ≡ says 15 0 d
+  -- "then 15 where the used count is 4 (no block)"; 02 §2: "7 body ends where a block must begin"
+  pub close-15 : (d : Draft) (len : ℕ) → SoundDraft d len → d .used ≡ 4 → stepTold (closeStep d len) ≡ faults 7 d
   -- none otherwise: the state as it was
   pub closes : (d : Draft) (len : ℕ) → SoundDraft d len → d .used ≢ 4 → stepTold (closeStep d len) ≡ says 0 0 d
   -- What each step leaves in its buffer, by what its call promises (specs/Calls.antt); a refused one leaves it as it was (Demand1.buffer-untouched).

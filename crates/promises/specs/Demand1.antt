@@ -1,7 +1,7 @@
 -- Demand 1, sentence by sentence; proved in proofs/Demand1.antt (demand-1).
 use mathlib.Core.Path.{_≡_}
 use mathlib.Core.List.{List}
-use mathlib.Core.Logic.{_⊎_, _≢_}
+use mathlib.Core.Logic.{_⊎_, _≢_, _↔_}
 use Prim.Native.Nat.{ℕ, _+_, _≤_, _<_}
 use lib.ListN.{length, drop}
 use Rattle.units.specs.Units.{Bytes, part}
@@ -17,7 +17,7 @@ use Rattle.packet.specs.declared.PacketWrite.{PacketWrite}
 use Rattle.recording.specs.Reading.{readRecording}
 use Rattle.promises.specs.Handed.{Within, HandsOut}
 use Rattle.promises.specs.Refusals.{readerRefusals, listerRefusals, messageRefusals}
-use Rattle.promises.specs.Bodies.{BodyAtFault}
+use Rattle.promises.specs.Bodies.{MessagesKept, BodyAtFault}
 use Rattle.promises.specs.Endings.{FromTable, zeroPacket, zeroMessage, Ends, readTold, listedTold, givenTold, Placed}
 
 -- the three calls on the packet at `start` say the same of two buffers, with these ends; the lists' entries too, whatever they held before
@@ -37,14 +37,15 @@ pub record ListKept (r : PacketList) (values : ℕ → ℕ) (old : List ℕ) : T
 
 pub record Demand1 : Type 0 where
   -- "A read names a start and a filled end in a buffer. For every input it ends with a packet or one refusal from the table, number
-  -- and place fixed." Which number: Document01.read-first; where: read-placed, placed-once.
+  -- and place fixed." Which number: Document01.read-first; where, and why (document 02 §2): read-placed, placed-once.
 
-  -- the reader: a packet, or one of the reader's refusals, and its place
+  -- the reader: a packet, or one of the reader's refusals, its place and its reason
   pub read-ends : (buf : List ℕ) (start end : ℕ) → Ends readerRefusals readTold zeroPacket (packetTold (readPacket buf start end))
   pub read-placed : (buf : List ℕ) → Bytes buf → (start end : ℕ) → packetTold (readPacket buf start end) .refusal .number ≢ 0
       → Placed (window buf start end) start (packetTold (readPacket buf start end) .refusal)
-  -- a body is at fault at one place
-  pub placed-once : (kind flags : ℕ) (bs : List ℕ) → Bytes bs → (a b : ℕ) → BodyAtFault kind flags bs a → BodyAtFault kind flags bs b → a ≡ b
+  -- a body is at fault exactly where it breaks the layout, at one place and for one reason
+  pub fault-exactly : (kind flags : ℕ) (bs : List ℕ) → Bytes bs → (¬ MessagesKept kind flags bs) ↔ ((at reason : ℕ) × BodyAtFault kind flags bs at reason)
+  pub placed-once : (kind flags : ℕ) (bs : List ℕ) → Bytes bs → (a b r s : ℕ) → BodyAtFault kind flags bs a r → BodyAtFault kind flags bs b s → (a ≡ b) × (r ≡ s)
   -- the lister, with lists of any length: a count, or one of the reader's or 16
   pub list-ends : (buf : List ℕ) (start end len₁ len₂ : ℕ) → Ends listerRefusals listedTold 0 (listTold (listPacket buf start end len₁ len₂))
   -- one message, of any number: it, or one of the reader's or 17

@@ -24,7 +24,7 @@ use Rattle.promises.specs.Contents.{Typed, Accepts, outputOf}
 use Rattle.promises.specs.Refusals.{OneOf, readerRefusals, writerRefusals}
 use Rattle.promises.specs.Endings.{zeroMessage, Ends, listedTold, givenTold, writtenTold}
 use Rattle.promises.specs.Keeps.{Rule}
-use Rattle.promises.specs.Bodies.{BodyKept}
+use Rattle.promises.specs.Bodies.{BodyKept, BodyAtFault}
 use Rattle.promises.specs.WriterKeeps.{LengthOf, WriterRule, WriterKeeps}
 use Rattle.promises.specs.Building.{FlagsFor, Building}
 
@@ -34,7 +34,7 @@ pub record Document01 : Type 0 where
   pub read-first : (buf : List ℕ) → Bytes buf → (start end : ℕ) (before : List ℕ) (n : ℕ) (after : List ℕ) → readerRefusals ≡ before ++ (n ∷ after)
       → (packetTold (readPacket buf start end) .refusal .number ≡ n)
       ↔ (((m : ℕ) → OneOf m before → Rule buf start end (window buf start end) m) × (¬ Rule buf start end (window buf start end) n))
-  -- Lister: "After the reader's tests", and the second call too: a refusal of the reader is theirs, number, place and room
+  -- Lister: "After the reader's tests", and the second call too: a refusal of the reader is theirs, number, place, room and reason
   pub list-as-read : (buf : List ℕ) (start end len₁ len₂ : ℕ) → packetTold (readPacket buf start end) .refusal .number ≢ 0
       → listTold (listPacket buf start end len₁ len₂) ≡ listedTold (packetTold (readPacket buf start end) .refusal) 0
   pub message-as-read : (buf : List ℕ) (start end number : ℕ) → packetTold (readPacket buf start end) .refusal .number ≢ 0
@@ -65,6 +65,10 @@ pub record Document01 : Type 0 where
   pub write-accepts : (c : Contents) → Typed c → (room : ℕ) → (writeTold (writePacket c room) .refusal .number ≡ 0) ↔ WriterKeeps c room
   -- "For the writer and builder the place is 0"; "16 also gives the room needed (.. whole packet ..)"
   pub write-placed : (c : Contents) (room : ℕ) → writeTold (writePacket c room) .refusal .place ≡ 0
+  -- 02 §2: of 15 the reason is that of the body, all others have reason 0
+  pub write-fault : (c : Contents) → Typed c → (room : ℕ) → writeTold (writePacket c room) .refusal .number ≡ 15
+      → (at : ℕ) × BodyAtFault (c .fields .kind) (c .fields .flags) (c .body) at (writeTold (writePacket c room) .refusal .reason)
+  pub write-no-fault : (c : Contents) (room : ℕ) → writeTold (writePacket c room) .refusal .number ≢ 15 → writeTold (writePacket c room) .refusal .reason ≡ 0
   pub write-room : (c : Contents) (room : ℕ) → writeTold (writePacket c room) .refusal .number ≡ 16 → LengthOf c (writeTold (writePacket c room) .refusal .room)
   pub write-no-room : (c : Contents) (room : ℕ) → writeTold (writePacket c room) .refusal .number ≢ 16 → writeTold (writePacket c room) .refusal .room ≡ 0
   -- what is told of a packet that is written is its length, and so long are its bytes

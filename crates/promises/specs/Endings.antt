@@ -62,9 +62,9 @@ givenTold r m = record { refusal = r; message = m }
 abbrev pub writtenTold : Refusal → ℕ → WriteTold
 writtenTold r n = record { refusal = r; length = n }
 
--- where the reader's refusals of a packet at the start of a window are placed; w: the window's bytes. 15 where the packet's body is at fault, all
--- others at the start; none gives room
+-- where the reader's refusals of a packet at the start of a window are placed, and their reasons; w: the window's bytes. 15 where the packet's body is
+-- at fault, for the rule broken there; all others at the start, for reason 0; none gives room
 pub record Placed (w : List ℕ) (start : ℕ) (r : Refusal) : Type 0 where
   pub room : r .room ≡ 0
-  pub outer : r .number ≢ 15 → r .place ≡ start
-  pub inner : r .number ≡ 15 → (at : ℕ) × (r .place ≡ start + body w + at) × BodyAtFault (type w) (flags w) (bodyBytes w) at
+  pub outer : r .number ≢ 15 → (r .place ≡ start) × (r .reason ≡ 0)
+  pub inner : r .number ≡ 15 → (at : ℕ) × (r .place ≡ start + body w + at) × BodyAtFault (type w) (flags w) (bodyBytes w) at (r .reason)

@@ -1,14 +1,15 @@
--- Where a body that breaks its layout is at fault (document 01, the place of 15): said by the blocks that stand before that place. No test of
--- the reader's is cited. Places are counted from the body's first byte.
+-- Where a body that breaks its layout is at fault (document 01, the place of 15), and which rule it breaks there (document 02 §2, the reason): said by
+-- its bytes, and by the blocks that stand before that place. No test of the reader's is cited. Places are counted from the body's first byte.
 use mathlib.Core.Path.{_≡_}
 use mathlib.Core.List.{List, [], _∷_, _++_}
-use mathlib.Core.Logic.{_⊎_}
-use Prim.Native.Nat.{ℕ, _+_, _≤_, _<_}
-use lib.ListN.{length, take}
+use mathlib.Core.Logic.{_⊎_, _≢_}
+use Prim.Native.Nat.{ℕ, _+_, _%_, _^_, _≤_, _<_}
+use lib.ListN.{length, take, getD}
 use Rattle.units.specs.Units.{field}
-use Rattle.body.specs.Blocks.{Entry, blockBytes, blocksBytes}
+use Rattle.body.specs.Blocks.{Entry, blocksBytes}
 use Rattle.body.specs.Layout.{OpenedType, Asked, exactly, toTheEnd, ChannelWord}
 use Rattle.body.specs.declared.Form.{Form}
+use Rattle.body.specs.declared.Form.the-variants.{Stamped, Plain}
 
 -- each of some blocks
 abbrev pub Each : (Entry → Type 0) → List Entry → Type 0
@@ -29,22 +30,53 @@ pub record Begins (kind : ℕ) (Right : Form → Entry → Type 0) (bs : List �
   pub is : bs ≡ take 4 bs ++ (blocksBytes form es ++ rest)
   pub right : Each (Right form) es
 
--- `rest` starts with a block that keeps the rules
-pub record RightBlock (Right : Form → Entry → Type 0) (form : Form) (rest : List ℕ) : Type 0 where
-  pub entry : Entry
-  pub behind : List ℕ
-  pub is : rest ≡ blockBytes form entry ++ behind
-  pub right : Right form entry
+-- ---- a block that is due, where `rest` is left of the body
 
--- the place of the fault
-pub data AtFault (kind : ℕ) (Right : Form → Entry → Type 0) (bs : List ℕ) : ℕ → Type 0 where
-  -- the channel word: there are under 4 bytes,
-  cut : OpenedType kind → length bs < 4 → AtFault kind Right bs 0
+-- its time stamp is of 8 bytes, or there is none
+abbrev pub stamp : Form → ℕ
+stamp Stamped = 8
+stamp Plain = 0
+
+-- its head: the time stamp and an ID word of 4 bytes
+abbrev pub headSize : Form → ℕ
+headSize form = stamp form + 4
+
+-- n is bits 15-0 of the ID word
+abbrev pub n : Form → List ℕ → ℕ
+n form rest = field rest (stamp form) 4 % 2 ^ 16
+
+-- the whole block: its head, the n bytes, and one pad byte if n is odd
+abbrev pub size : Form → List ℕ → ℕ
+size form rest = headSize form + n form rest + n form rest % 2
+
+-- the rule that it breaks, by its reason. InForm t: time t is in form
+pub data Breaks (InForm : ℕ → Type 0) (form : Form) (rest : List ℕ) : ℕ → Type 0 where
+  -- 2 block cut short: it begins, and its head is not whole; or that is, and its n bytes and their pad are not
+  headCut : 1 ≤ length rest → length rest < headSize form → Breaks InForm form rest 2
+  bytesCut : headSize form ≤ length rest → length rest < size form rest → Breaks InForm form rest 2
+  -- 3 time: it is whole, and its time is out of form
+  time : size form rest ≤ length rest → form ≡ Stamped → ¬ InForm (field rest 0 8) → Breaks InForm form rest 3
+  -- 4 length zero: it is whole, and n is 0
+  empty : size form rest ≤ length rest → n form rest ≡ 0 → Breaks InForm form rest 4
+  -- 5 pad not zero: it is whole, and the pad byte behind its n bytes is not 0
+  pad : size form rest ≤ length rest → n form rest % 2 ≡ 1 → getD rest (headSize form + n form rest) 0 ≢ 0 → Breaks InForm form rest 5
+  -- 7 body ends where a block must begin
+  ends : length rest ≡ 0 → Breaks InForm form rest 7
+
+-- "For a block that breaks several, the lowest number .. wins"
+abbrev pub Lowest : (ℕ → Type 0) → Form → List ℕ → ℕ → Type 0
+Lowest InForm form rest reason = Breaks InForm form rest reason × ((lower : ℕ) → lower < reason → ¬ Breaks InForm form rest lower)
+
+-- ---- the place of the fault, and its reason
+
+pub data AtFault (kind : ℕ) (Right : Form → Entry → Type 0) (InForm : ℕ → Type 0) (bs : List ℕ) : ℕ → ℕ → Type 0 where
+  -- 1 channel word: there are under 4 bytes,
+  cut : OpenedType kind → length bs < 4 → AtFault kind Right InForm bs 0 1
   -- or it breaks a rule
-  word : OpenedType kind → 4 ≤ length bs → ((form : Form) (asked : Asked) → ¬ ChannelWord kind (field bs 0 4) form asked) → AtFault kind Right bs 0
-  -- the first byte of the block at fault, or where a missing block should begin: one is due behind these, and no right one stands there
-  block : {form : Form} {asked : Asked} {es : List Entry} {rest : List ℕ} → Begins kind Right bs form asked es rest → Due asked (length es) rest
-      → ¬ RightBlock Right form rest → AtFault kind Right bs (4 + length (blocksBytes form es))
-  -- the first of the bytes left over: as many blocks as the channel word says, and the body goes on
+  word : OpenedType kind → 4 ≤ length bs → ((form : Form) (asked : Asked) → ¬ ChannelWord kind (field bs 0 4) form asked) → AtFault kind Right InForm bs 0 1
+  -- 2 to 5, and 7: the first byte of the block at fault, or where a missing block should begin. One is due behind these, and breaks that rule
+  block : {form : Form} {asked : Asked} {es : List Entry} {rest : List ℕ} {reason : ℕ} → Begins kind Right bs form asked es rest → Due asked (length es) rest
+      → Lowest InForm form rest reason → AtFault kind Right InForm bs (4 + length (blocksBytes form es)) reason
+  -- 6 bytes after the counted blocks: the first of the bytes left over. As many blocks as the channel word says, and the body goes on
   over : {form : Form} {count : ℕ} {es : List Entry} {rest : List ℕ} → Begins kind Right bs form (exactly count) es rest → length es ≡ count
-      → 1 ≤ length rest → AtFault kind Right bs (4 + length (blocksBytes form es))
+      → 1 ≤ length rest → AtFault kind Right InForm bs (4 + length (blocksBytes form es)) 6

@@ -13,21 +13,23 @@ pub enum TimeRule {
     Extended,
 }
 
-// A refusal: document 01's number, the place, and the room needed (16; otherwise 0).
+// A refusal: document 01's number, the place, the room needed (16; otherwise 0), and the reason (15; otherwise 0).
 pub struct Refusal {
     pub number: u8,
     pub place: usize,
     pub room: usize,
+    pub reason: u8,
 }
 
 // The one place where a refusal's record is made.
-fn make(number: u8, place: usize, room: usize) -> Refusal
-    ensures { λ r. ⌜ r ≡ refusal number place room ⌝ }
+fn make(number: u8, place: usize, room: usize, reason: u8) -> Refusal
+    ensures { λ r. ⌜ r ≡ refusal number place room reason ⌝ }
 {
     Refusal {
         number,
         place,
         room,
+        reason,
     }
 }
 
@@ -35,7 +37,7 @@ fn make(number: u8, place: usize, room: usize) -> Refusal
 pub fn refuse(number: u8, place: usize) -> Refusal
     ensures { λ r. ⌜ r ≡ refused number place ⌝ }
 {
-    make(number, place, 0)
+    make(number, place, 0, 0)
 }
 
 // No refusal: what stands for one where an answer has its place.
@@ -45,25 +47,25 @@ pub fn no_refusal() -> Refusal
     refuse(0, 0)
 }
 
-// 15: an opened body breaks its layout there.
-pub fn fault(place: usize) -> Refusal
-    ensures { λ r. ⌜ r ≡ fault place ⌝ }
+// 15: an opened body breaks its layout there, for this reason.
+pub fn fault(place: usize, reason: u8) -> Refusal
+    ensures { λ r. ⌜ r ≡ fault place reason ⌝ }
 {
-    refuse(15, place)
+    make(15, place, 0, reason)
 }
 
 // 16: so much room is needed.
 pub fn no_room(place: usize, room: usize) -> Refusal
     ensures { λ r. ⌜ r ≡ needing room (refused 16 place) ⌝ }
 {
-    make(16, place, room)
+    make(16, place, room, 0)
 }
 
 // The same refusal, at another place.
 pub fn placed(refusal: Refusal, place: usize) -> Refusal
     ensures { λ r. ⌜ r ≡ placed place refusal ⌝ }
 {
-    make(refusal.number, place, refusal.room)
+    make(refusal.number, place, refusal.room, refusal.reason)
 }
 
 // The same refusal, so many bytes on.

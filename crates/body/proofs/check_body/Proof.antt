@@ -16,16 +16,10 @@ walk-body-requires : tie.Need-walk-body-requires
 walk-body-requires c κs = sym (c .before .opens-kind .ensures) ∙ not-false _ (c .if1 .left)
 
 returns-2 : tie.Need-returns-2
-returns-2 c =
-    let w = c .before .before .before in
-    let o = sym (w .before .before .opens-kind .ensures) ∙ not-false _ (w .before .if1 .left) in
-    ap Faulty (c .walk-refusal .ensures) ∙ sym (walked-faulty _ _ _ _ o (w .walk-body .ensures) (c .before .if2 .taken))
+returns-2 c = ap Faulty (c .walk-refusal .ensures) ∙ sym (walked-faulty _ _ _ _ (c .before .before .before .walk-body .ensures) (c .before .if2 .taken))
 
 returns-3 : tie.Need-returns-3
-returns-3 c =
-    let w = c .before .before in
-    let o = sym (w .before .before .opens-kind .ensures) ∙ not-false _ (w .before .if1 .left) in
-    sym (walked-counted _ _ _ _ o (w .walk-body .ensures) (c .if2 .left))
+returns-3 c = sym (walked-counted _ _ _ _ (c .before .before .walk-body .ensures) (c .if2 .left))
 
 pub check-body-spec : {M : Type 1} → statement M
 check-body-spec =

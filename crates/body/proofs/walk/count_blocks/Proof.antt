@@ -62,6 +62,7 @@ count-blocks-spec =
     loop-holds
     (λ c κs. search needs)
     next-block-requires
+    (λ c. omega (arith, c .if2 .taken))
     returns
     (λ c. search needs)
     loop-less

@@ -1,7 +1,7 @@
 use Rattle.body.specs.declared.Message.{Message}
 use Rattle.body.specs.Walk.{headAt}
 use Rattle.body.specs.inner.Walks.{past}
-use Rattle.body.proofs.Steps.{cut-short, judged}
+use Rattle.body.proofs.Steps.{none-there, cut-short, judged}
 use Rattle.body.proofs.Blocks.{says-short}
 use native.Mathlib.Omega.{arith}
 use mathlib.Core.Path.{ap, _∙_}
@@ -10,7 +10,12 @@ use Rattle.body.proofs.walk.next_block.Statement.{statement}
 use Rattle.body.proofs.walk.next_block.Tie as tie
 
 returns : tie.Need-returns
-returns c = cut-short _ _ _ (omega (arith, c .if1 .taken, c .before .stamp-length .ensures .0))
+returns c = none-there _ _ _ (c .if2 .taken)
+
+returns-2 : tie.Need-returns-2
+returns-2 c =
+    let at-then1 = c .before in
+    cut-short _ _ _ (omega (arith, c .if2 .left)) (omega (arith, at-then1 .if1 .taken, at-then1 .before .stamp-length .ensures .0))
 
 judge-block-requires : tie.Need-judge-block-requires
 unfolding headAt
@@ -21,8 +26,8 @@ judge-block-requires c κs =
     let stamp = at-stamp .stamp-length .ensures .0 in
     (at-stamp .before .before .pre .0, (omega (arith, s, stamp), omega (arith, s, stamp), says-short _ _ _ _ e))
 
-returns-2 : tie.Need-returns-2
-returns-2 c =
+returns-3 : tie.Need-returns-3
+returns-3 c =
     let at-else1 = c .before .before in
     let at-stamp = at-else1 .before in
     c .judge-block .ensures
@@ -36,6 +41,7 @@ next-block-spec =
     (λ c. search needs)
     (λ c. search needs)
     returns
+    returns-2
     (λ c κs. search needs)
     judge-block-requires
-    returns-2)
+    returns-3)

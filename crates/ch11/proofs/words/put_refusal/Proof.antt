@@ -7,7 +7,7 @@ use Rattle.ch11.proofs.words.put_refusal.Statement.{statement}
 use Rattle.ch11.proofs.words.put_refusal.Tie as tie
 
 returns : tie.Need-returns
-returns c = let a = c .before .args in sets-eq (refusalWords (a .f)) (a .words .now) 0 (c .before .pre)
+returns c = let a = c .before .before .args in sets-eq (refusalWords (a .f)) (a .words .now) 0 (c .before .before .pre)
 
 pub put-refusal-spec : {M : Type 1} → statement M
 put-refusal-spec =
@@ -16,6 +16,8 @@ put-refusal-spec =
     (λ c. search needs)
     (λ c. search needs)
     (λ c. simp length-set (omega arith))
+    (λ c. simp length-set (omega arith))
+    (λ c. search needs)
     (λ c. simp length-set (omega arith))
     (λ c. search needs)
     returns)

@@ -21,10 +21,8 @@ reach : tie.Need-moved-requires
 reach c κs =
     let walk = c .before .before .before in
     let at-measure = walk .before .before .before .before in
-    let else1 = at-measure .before in
-    let start = else1 .before .before .before .before in
-    let opened = sym (else1 .before .opens-kind .ensures) ∙ not-false _ (else1 .if1 .left) in
-    let faulty = walked-faulty _ _ _ _ opened (walk .walk-body .ensures) (c .before .if2 .taken) ∙ sym (ap Faulty (c .walk-refusal .ensures)) in
+    let start = at-measure .before .before .before .before .before in
+    let faulty = walked-faulty _ _ _ _ (walk .walk-body .ensures) (c .before .if2 .taken) ∙ sym (ap Faulty (c .walk-refusal .ensures)) in
     let reach = fault-reach _ _ (at-measure .measure .ensures) _ (walk .before .message-rule .ensures) (start .pre .0) _ faulty in
     omega (arith, reach, start .pre .1)
 
@@ -32,19 +30,15 @@ returns-2 : tie.Need-returns-2
 returns-2 c =
     let walk = c .before .before .before .before in
     let at-measure = walk .before .before .before .before in
-    let else1 = at-measure .before in
     let m = at-measure .measure .ensures in
-    let opened = sym (else1 .before .opens-kind .ensures) ∙ not-false _ (else1 .if1 .left) in
-    let faulty = walked-faulty _ _ _ _ opened (walk .walk-body .ensures) (c .before .before .if2 .taken) ∙ sym (ap Faulty (c .before .walk-refusal .ensures)) in
+    let faulty = walked-faulty _ _ _ _ (walk .walk-body .ensures) (c .before .before .if2 .taken) ∙ sym (ap Faulty (c .before .walk-refusal .ensures)) in
     pass-faulty _ _ _ _ _ (sym (checked-is _ _ m _ (walk .before .message-rule .ensures)) ∙ faulty) (m .body) (c .moved .ensures)
 
 returns-3 : tie.Need-returns-3
 returns-3 c =
     let walk = c .before .before .before in
     let at-measure = walk .before .before .before .before in
-    let else1 = at-measure .before in
-    let opened = sym (else1 .before .opens-kind .ensures) ∙ not-false _ (else1 .if1 .left) in
-    let counted = walked-counted _ _ _ _ opened (walk .walk-body .ensures) (c .before .if2 .left) in
+    let counted = walked-counted _ _ _ _ (walk .walk-body .ensures) (c .before .if2 .left) in
     pass-counted _ _ _ _ (sym (checked-is _ _ (at-measure .measure .ensures) _ (walk .before .message-rule .ensures)) ∙ counted) (c .read322 .ensures)
 
 pub pass-framed-spec : {M : Type 1} → statement M
