@@ -11,7 +11,8 @@
  *
  * Every result is written into a struct of 64-bit numbers, which needs no filling beforehand, save the builder's. Each call returns the
  * refusal's number, 0 for none; the struct begins with the same number. On a refusal all other results are 0, but for the place, for
- * the room that 16 gives, for the recording's two numbers and for the builder's state; lists, buffers and outputs are then as they were.
+ * the room that 16 and the reason that 15 gives, for the recording's two numbers and for the builder's state; lists, buffers and outputs
+ * are then as they were.
  *
  * A length may be 0. Pointers must not be null, not even then; they must be aligned for their type and good for the length given, a
  * struct's for the struct. What a call may write to must not overlap anything else that the same call is lent.
@@ -63,9 +64,24 @@ enum {
     CH11_SECONDARY = 12,     /* secondary reserved bytes not zero, or a secondary time out of form */
     CH11_DATA_SUM = 13,      /* wrong data sum */
     CH11_FILLER = 14,        /* filler not zero */
-    CH11_LAYOUT = 15,        /* an opened body breaks its layout; a builder's time out of form, or a body closed without a block */
+    CH11_LAYOUT = 15,        /* an opened body breaks its layout; a builder's time out of form, or a body closed without a block; the
+                                reason is given */
     CH11_ROOM = 16,          /* no room in a list or output; the room needed is given */
     CH11_RANGE = 17          /* writer or builder input out of range, or no message of that number */
+};
+
+/* Reasons: which rule of its layout a body breaks at that place. The channel word is looked at first, then block by block; of a block that
+ * breaks several rules the lowest number is given. More numbers may follow. A text as for a customer stands at each; a message and the
+ * bytes around it are what the layout below calls a block. */
+enum {
+    CH11_REASON_NONE = 0,         /* no 15, so no reason */
+    CH11_REASON_CHANNEL_WORD = 1, /* "The first four bytes of the packet's data, its channel word, are missing or not as the standard asks." */
+    CH11_REASON_CUT_SHORT = 2,    /* "The packet's data ends in the middle of a message." In its time, ID word, n bytes or pad byte */
+    CH11_REASON_TIME = 3,         /* "A message's time isn't in the form that the packet's flags announce." */
+    CH11_REASON_LENGTH_ZERO = 4,  /* "A message is announced with a length of zero." n is 0 */
+    CH11_REASON_PAD = 5,          /* "The byte that pads a message of odd length isn't zero." */
+    CH11_REASON_LEFT_OVER = 6,    /* "There are more bytes behind the last message that the channel word announces." 0x30 alone */
+    CH11_REASON_MISSING = 7       /* "The packet's data ends where another message must begin." */
 };
 
 struct ch11_refusal {
@@ -73,6 +89,7 @@ struct ch11_refusal {
     uint64_t place;  /* where, counted from the buffer's first byte: the start of the packet; for 15 the channel word or the first byte
                         of the block at fault, of the bytes left over, or where a missing block should begin. Writer and builder: 0 */
     uint64_t room;   /* for 16: the messages, or the bytes of the whole packet or body, that need room; else 0 */
+    uint64_t reason; /* for 15: the rule broken, CH11_REASON_..; else 0 */
 };
 
 /* ---- one packet */
@@ -201,12 +218,12 @@ struct ch11_draft {
 uint64_t ch11_open(struct ch11_draft *draft, uint8_t *buf, size_t len, uint64_t type, uint64_t rule);
 
 /* Adds a block: its time (0 where none is stored), the upper half of its ID word (0 to 65,535), and its 1 to 65,535 bytes.
- * 1; then 17 for an upper half or a number of bytes out of range, or a 65,536th block in 0x30; then 15 for a time out of form (17 for a
- * time that isn't 0 where none is stored); then 16. */
+ * 1; then 17 for an upper half or a number of bytes out of range, or a 65,536th block in 0x30; then 15, reason 3, for a time out of form
+ * (17 for a time that isn't 0 where none is stored); then 16. */
 uint64_t ch11_add(struct ch11_draft *draft, uint8_t *buf, size_t len, uint64_t time, uint64_t upper, const uint8_t *bytes,
                   size_t bytes_len);
 
-/* Closes a body: writes its counter in 0x30, nothing in 0x50. 1, then 15 where there is no block (the used count is 4). */
+/* Closes a body: writes its counter in 0x30, nothing in 0x50. 1, then 15, reason 7, where there is no block (the used count is 4). */
 uint64_t ch11_close(struct ch11_draft *draft, uint8_t *buf, size_t len);
 
 #ifdef __cplusplus

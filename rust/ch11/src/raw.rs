@@ -7,6 +7,7 @@ pub struct Refusal {
     pub number: u64,
     pub place: u64,
     pub room: u64,
+    pub reason: u64,
 }
 
 /// `struct ch11_fields`

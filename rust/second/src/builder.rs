@@ -14,6 +14,19 @@ fn refuse(number: u64, room: u64, draft: Draft) -> (Refusal, Draft) {
         number,
         place: 0,
         room,
+        reason: NO_REASON,
+    };
+    (refusal, draft)
+}
+
+/// A step refused with 15, which names the rule broken. Request 2: "Lister,
+/// recording reader, builder and writer pass it on."
+fn refuse_body(reason: u64, draft: Draft) -> (Refusal, Draft) {
+    let refusal = Refusal {
+        number: WRONG_BODY,
+        place: 0,
+        room: 0,
+        reason,
     };
     (refusal, draft)
 }
@@ -98,9 +111,10 @@ pub fn add(draft: Draft, buf: &mut [u8], time: u64, upper: u64, bytes: &[u8]) ->
     }
     // "then 15 for a time out of form (and 17 for a time that isn't zero where
     // none is stored),"
+    // Request 2: "3 time"
     let has_time = draft.rule != RULE_NONE;
     if has_time && !time_is_good(draft.rule, time) {
-        return refuse(WRONG_BODY, 0, draft);
+        return refuse_body(REASON_TIME, draft);
     }
     if !has_time && time != 0 {
         return refuse(OUT_OF_RANGE, 0, draft);
@@ -141,8 +155,9 @@ pub fn close(draft: Draft, buf: &mut [u8]) -> (Refusal, Draft) {
         return refuse(OUTSIDE_BUFFER, 0, draft);
     }
     // "then 15 where the used count is 4 (no block)."
+    // Request 2: "7 body ends where a block must begin"
     if draft.used == CHANNEL_WORD_LENGTH as u64 {
-        return refuse(WRONG_BODY, 0, draft);
+        return refuse_body(REASON_NO_BLOCK, draft);
     }
     // "the counter (bits 15-0)" of the channel word.
     if draft.kind == MESSAGE {

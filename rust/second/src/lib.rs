@@ -1,8 +1,10 @@
-//! A second program for the rules of document 01: a reader for one packet, a
-//! lister of the messages in a packet, a reader for a whole recording, a body
-//! builder, a packet writer and the listing.
+//! A second program for the rules of document 01 and of the change request's
+//! section 2 (layout refusals say why): a reader for one packet, a lister of
+//! the messages in a packet, a reader for a whole recording, a body builder, a
+//! packet writer and the listing.
 //!
-//! Sentences in quotation marks are those of document 01.
+//! Sentences in quotation marks are those of document 01, or of the request
+//! where "Request 2:" stands ahead of them. The request outranks document 01.
 
 #![forbid(unsafe_code)]
 
@@ -19,12 +21,17 @@ pub use reader::{list_messages, message, read_packet, read_recording};
 pub use writer::write_packet;
 
 /// "A refusal returns its number and place; all other results are zero, save
-/// that [...] 16 also gives the room needed".
+/// that [...] 16 also gives the room needed". 15 also gives the reason: the
+/// number, from 1 to 7, of the layout rule that the body breaks. Request 2:
+/// "1 channel word (or under 4 bytes), 2 block cut short, 3 time, 4 length
+/// zero, 5 pad not zero, 6 bytes after the counted blocks, 7 body ends where a
+/// block must begin"; "all others have reason 0".
 #[derive(Clone, Copy, Debug, PartialEq, Eq, Default)]
 pub struct Refusal {
     pub number: u64,
     pub place: u64,
     pub room: u64,
+    pub reason: u64,
 }
 
 /// The fields that the reader reports and the writer takes.

@@ -1,7 +1,7 @@
 //! The reader for one packet, the lister, the call for one message and the
 //! reader for a whole recording.
 
-use crate::body::read_body;
+use crate::body::{read_body, Fault};
 use crate::rules::*;
 use crate::{Fields, Message, Packet, Part, Recording, Refusal};
 
@@ -11,6 +11,19 @@ fn refuse(number: u64, start: usize) -> Refusal {
         number,
         place: start as u64,
         room: 0,
+        reason: NO_REASON,
+    }
+}
+
+/// 15 for a body that starts at `body_at`, counted from the buffer's first
+/// byte: "for 15 the channel word or the first byte of the block at fault (or
+/// of the bytes left over, or where a missing block should begin)".
+fn refuse_body(body_at: usize, fault: Fault) -> Refusal {
+    Refusal {
+        number: WRONG_BODY,
+        place: (body_at + fault.at) as u64,
+        room: 0,
+        reason: fault.reason,
     }
 }
 
@@ -131,10 +144,11 @@ pub(crate) fn read_with_messages(
         return Err(refuse(FILLER_NOT_ZERO, start));
     }
     // 15: "opened body breaks its layout"; its place is the fault's own.
+    // Request 2: "Have the block walk name the rule broken"
     let body = &packet_bytes[body_at..filler_at];
     let blocks = match read_body(kind, message_rule(flags), body) {
         Ok(blocks) => blocks,
-        Err(fault) => return Err(refuse(WRONG_BODY, start + body_at + fault)),
+        Err(fault) => return Err(refuse_body(start + body_at, fault)),
     };
 
     let mut messages = Vec::with_capacity(blocks.len());
@@ -182,7 +196,7 @@ fn part(start: usize, from: usize, to: usize) -> Part {
 
 /// "After the reader's tests it fills two lent lists of 32-bit numbers, the
 /// start and length of each message's n bytes, counted from the packet's first
-/// byte."
+/// byte." Request 2: "Lister, recording reader, builder and writer pass it on."
 pub fn list_messages(
     buf: &[u8],
     start: usize,
@@ -200,6 +214,7 @@ pub fn list_messages(
             number: NO_ROOM,
             place: start as u64,
             room: messages.len() as u64,
+            reason: NO_REASON,
         });
     }
     // "Entries past the count are untouched." Starts and lengths are below
@@ -225,7 +240,8 @@ pub fn message(buf: &[u8], start: usize, end: usize, number: usize) -> Result<Me
 }
 
 /// "Packets are read from the start, each at the end of the one before, and the
-/// first packet that is refused ends the reading."
+/// first packet that is refused ends the reading." The refusal is handed on
+/// whole, its reason too.
 pub fn read_recording(buf: &[u8], start: usize, end: usize) -> Recording {
     // 1 comes first; a window outside its buffer has no exact end to reach.
     if !window_is_good(buf, start, end) {

@@ -20,6 +20,25 @@ pub const WRONG_BODY: u64 = 15;
 pub const NO_ROOM: u64 = 16;
 pub const OUT_OF_RANGE: u64 = 17;
 
+/// The reasons of refusal 15. Request 2: "Have the block walk name the rule
+/// broken: 1 channel word (or under 4 bytes),"
+pub const REASON_CHANNEL_WORD: u64 = 1;
+/// Request 2: "2 block cut short"
+pub const REASON_CUT_SHORT: u64 = 2;
+/// Request 2: "3 time"
+pub const REASON_TIME: u64 = 3;
+/// Request 2: "4 length zero"
+pub const REASON_LENGTH_ZERO: u64 = 4;
+/// Request 2: "5 pad not zero"
+pub const REASON_PAD: u64 = 5;
+/// Request 2: "6 bytes after the counted blocks"
+pub const REASON_BYTES_AFTER: u64 = 6;
+/// Request 2: "7 body ends where a block must begin"
+pub const REASON_NO_BLOCK: u64 = 7;
+
+/// Request 2: "all others have reason 0", an acceptance too.
+pub const NO_REASON: u64 = 0;
+
 /// "Primary header, 24 bytes".
 pub const HEADER_LENGTH: u64 = 24;
 

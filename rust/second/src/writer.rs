@@ -10,6 +10,7 @@ fn refuse(number: u64) -> Refusal {
         number,
         place: 0,
         room: 0,
+        reason: NO_REASON,
     }
 }
 
@@ -62,8 +63,14 @@ pub fn write_packet(fields: &Fields, body: &[u8], out: &mut [u8]) -> Result<u64,
         return Err(refuse(WRONG_SECONDARY));
     }
     // "and 15 by the reader's rules,"
-    if read_body(kind, message_rule(flags), body).is_err() {
-        return Err(refuse(WRONG_BODY));
+    // Request 2: "Lister, recording reader, builder and writer pass it on."
+    if let Err(fault) = read_body(kind, message_rule(flags), body) {
+        return Err(Refusal {
+            number: WRONG_BODY,
+            place: 0,
+            room: 0,
+            reason: fault.reason,
+        });
     }
     // "then 16", with the room for the whole packet.
     if length > out.len() as u64 {
@@ -71,6 +78,7 @@ pub fn write_packet(fields: &Fields, body: &[u8], out: &mut [u8]) -> Result<u64,
             number: NO_ROOM,
             place: 0,
             room: length,
+            reason: NO_REASON,
         });
     }
 

@@ -12,11 +12,23 @@ const CASE_L: [u8; 40] = [
 const LISTING_L: &str = "packet=0\nat=0\nlength=40\nchannel=1\ntype=80\nversion=6\nsequence=0\n\
 flags=2\nrtc=1\ntime=0\nbody=12\nfiller=2\nsum=17031\nmessages=1\npackets=1\nbytes=40\nanswer=0\n";
 
+/// A refusal other than 15, or none. Request 2: "all others have reason 0".
 fn refusal(number: u64, place: u64, room: u64) -> Refusal {
     Refusal {
         number,
         place,
         room,
+        reason: 0,
+    }
+}
+
+/// Refusal 15.
+fn layout(place: u64, reason: u64) -> Refusal {
+    Refusal {
+        number: 15,
+        place,
+        room: 0,
+        reason,
     }
 }
 
@@ -308,57 +320,54 @@ fn data_length_near_2_32() {
 #[test]
 fn uart_faults() {
     // The channel word alone: four bytes into the body.
-    assert_eq!(
-        read(&by_hand(0x50, 0, &[0, 0, 0, 0])),
-        Err(refusal(15, 28, 0))
-    );
+    assert_eq!(read(&by_hand(0x50, 0, &[0, 0, 0, 0])), Err(layout(28, 7)));
     // Less than a channel word, and reserved bits in it.
-    assert_eq!(read(&by_hand(0x50, 0, &[0, 0, 0])), Err(refusal(15, 24, 0)));
+    assert_eq!(read(&by_hand(0x50, 0, &[0, 0, 0])), Err(layout(24, 1)));
     assert_eq!(
         read(&by_hand(0x50, 0, &[0, 0, 0, 0x40, 2, 0, 0, 0, 7, 7])),
-        Err(refusal(15, 24, 0))
+        Err(layout(24, 1))
     );
     // n = 0; n past the end; the pad byte missing; the pad byte not zero.
-    let faults: [&[u8]; 4] = [
-        &[0, 0, 0, 0],
-        &[3, 0, 0, 0, 7, 7],
-        &[3, 0, 0, 0, 7, 7, 7],
-        &[3, 0, 0, 0, 7, 7, 7, 1],
+    let faults: [(&[u8], u64); 4] = [
+        (&[0, 0, 0, 0], 4),
+        (&[3, 0, 0, 0, 7, 7], 2),
+        (&[3, 0, 0, 0, 7, 7, 7], 2),
+        (&[3, 0, 0, 0, 7, 7, 7, 1], 5),
     ];
-    for fault in faults {
+    for (fault, reason) in faults {
         let mut body = vec![0, 0, 0, 0, 1, 0, 0, 0x40, 7, 0];
         body.extend_from_slice(fault);
-        assert_eq!(read(&by_hand(0x50, 0, &body)), Err(refusal(15, 34, 0)));
+        assert_eq!(read(&by_hand(0x50, 0, &body)), Err(layout(34, reason)));
     }
     // A time of 2^48 with flag bit 6 clear.
     let body = [0, 0, 0, 0x80, 0, 0, 0, 0, 0, 0, 1, 0, 2, 0, 0, 0, 7, 7];
-    assert_eq!(read(&by_hand(0x50, 0, &body)), Err(refusal(15, 28, 0)));
+    assert_eq!(read(&by_hand(0x50, 0, &body)), Err(layout(28, 3)));
 }
 
 #[test]
 fn message_faults() {
     let block = [1, 0, 0, 0, 0, 0, 0, 0, 2, 0, 0, 0, 7, 7];
-    // Channel word and number of blocks in the body; then the place at fault,
-    // or 0 if there is none.
-    let cases: [(u32, usize, u64); 16] = [
-        (0x0_0000, 1, 24),
-        (0x0_0001, 0, 28),
-        (0x0_0001, 1, 0),
-        (0x0_0001, 2, 42),
-        (0x0_0002, 1, 42),
-        (0x0_0002, 2, 0),
-        (0x1_0000, 1, 24),
-        (0x1_0001, 1, 0),
-        (0x1_0001, 2, 42),
-        (0x1_0002, 1, 24),
-        (0x2_0001, 1, 24),
-        (0x2_0002, 1, 0),
-        (0x2_0002, 2, 42),
-        (0x3_FFFF, 1, 0),
-        (0x3_0001, 1, 24),
-        (0x4_0001, 1, 24),
+    // Channel word and number of blocks in the body; then the place at fault
+    // and the reason, or 0 and 0 if there is none.
+    let cases: [(u32, usize, u64, u64); 16] = [
+        (0x0_0000, 1, 24, 1),
+        (0x0_0001, 0, 28, 7),
+        (0x0_0001, 1, 0, 0),
+        (0x0_0001, 2, 42, 6),
+        (0x0_0002, 1, 42, 7),
+        (0x0_0002, 2, 0, 0),
+        (0x1_0000, 1, 24, 1),
+        (0x1_0001, 1, 0, 0),
+        (0x1_0001, 2, 42, 6),
+        (0x1_0002, 1, 24, 1),
+        (0x2_0001, 1, 24, 1),
+        (0x2_0002, 1, 0, 0),
+        (0x2_0002, 2, 42, 6),
+        (0x3_FFFF, 1, 0, 0),
+        (0x3_0001, 1, 24, 1),
+        (0x4_0001, 1, 24, 1),
     ];
-    for (channel_word, blocks, place) in cases {
+    for (channel_word, blocks, place, reason) in cases {
         let mut body = channel_word.to_le_bytes().to_vec();
         for _ in 0..blocks {
             body.extend_from_slice(&block);
@@ -369,7 +378,7 @@ fn message_faults() {
         if place == 0 {
             assert!(answer.is_ok());
         } else {
-            assert_eq!(answer, Err(refusal(15, place + 5, 0)));
+            assert_eq!(answer, Err(layout(place + 5, reason)));
         }
     }
 }
@@ -456,9 +465,10 @@ fn writer_refusals() {
     let mut out = [0xAA; 39];
     let room = write_packet(&fields_l(), body, &mut out);
     assert_eq!(room, Err(refusal(16, 0, 40)));
+    // Without its pad byte L's block is cut short.
     assert_eq!(
         write_packet(&fields_l(), &body[..11], &mut out),
-        Err(refusal(15, 0, 0))
+        Err(layout(0, 2))
     );
 
     // Each line spoils one field more, from the bottom of the table upwards.

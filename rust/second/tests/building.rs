@@ -4,11 +4,23 @@ use second::*;
 
 const DONE: Refusal = refusal(0, 0);
 
+/// A refusal other than 15, or none. Request 2: "all others have reason 0".
 const fn refusal(number: u64, room: u64) -> Refusal {
     Refusal {
         number,
         place: 0,
         room,
+        reason: 0,
+    }
+}
+
+/// Refusal 15.
+const fn layout(reason: u64) -> Refusal {
+    Refusal {
+        number: 15,
+        place: 0,
+        room: 0,
+        reason,
     }
 }
 
@@ -174,7 +186,7 @@ fn adding() {
     );
     assert_eq!(
         add(draft, &mut buf, 1 << 48, 0, &long[1..]),
-        (refusal(15, 0), draft)
+        (layout(3), draft)
     );
     // 4 + 8 + 4 + 65,535 + 1, and 4 + 8 + 4 + 3 + 1.
     assert_eq!(
@@ -227,7 +239,7 @@ fn closing() {
         kind: 0x30,
         rule: 1,
     };
-    assert_eq!(close(empty, &mut buf), (refusal(15, 0), empty));
+    assert_eq!(close(empty, &mut buf), (layout(7), empty));
     let uart = Draft {
         used: 10,
         blocks: u64::MAX,
