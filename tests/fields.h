@@ -3,12 +3,14 @@
  * tests/c/case_l.c reads this table as macros, rust/ch11/tests as text. The numbers were worked out by hand from the rules of document 01,
  * not taken from the library.
  *
- * L and M are the packets of those tests, L at the first byte of its buffer, M at 100 of a recording. */
+ * L and M are the packets of those tests, L at the first byte of its buffer, M at 100 of a recording. Behind an L at the first byte of another
+ * buffer stands an L whose pad byte is not zero, its data sum right. */
 
-STRUCT(refusal,          none, wrong_sum, short_list, no_message, short_output, wrong_type, short_buffer, outside)
-WORD(number,             0,    13,        16,         17,         16,           17,         16,           1)
-WORD(place,              0,    260,       100,        100,        0,            0,          0,            0)
-WORD(room,               0,    0,         2,          0,          80,           0,          54,           0)
+STRUCT(refusal,          none, wrong_sum, short_list, no_message, short_output, wrong_type, short_buffer, outside, wrong_pad, given_pad, late_time, no_block)
+WORD(number,             0,    13,        16,         17,         16,           17,         16,           1,       15,        15,        15,        15)
+WORD(place,              0,    260,       100,        100,        0,            0,          0,            0,       68,        0,         0,         0)
+WORD(room,               0,    0,         2,          0,          80,           0,          54,           0,       0,         0,         0,         0)
+WORD(reason,             0,    0,         0,          0,          0,            0,          0,            0,       5,         5,         3,         7)
 END
 
 STRUCT(fields,           fields_l, fields_m,           no_fields)
@@ -26,48 +28,48 @@ WORD(at,                 0,        24,          24,     36,       38,    100,   
 WORD(length,             24,       0,           12,     2,        2,     24,       12,          38,     2,        4,     0)
 END
 
-STRUCT(packet,           packet_l,    packet_m,    packet_refused)
-HOLDS(refusal, refusal,  none,        none,        wrong_sum)
-HOLDS(fields, fields,    fields_l,    fields_m,    no_fields)
-WORD(length,             40,          80,          0)
-WORD(data_length,        12,          38,          0)
-WORD(header_sum,         0x3B63,      0x1BC2,      0)
-WORD(data_sum,           0x4287,      0xBE1EDABD,  0)
-HOLDS(header, part,      header_l,    header_m,    no_part)
-HOLDS(secondary, part,   secondary_l, secondary_m, no_part)
-HOLDS(body, part,        body_l,      body_m,      no_part)
-HOLDS(filler, part,      filler_l,    filler_m,    no_part)
-HOLDS(sum, part,         sum_l,       sum_m,       no_part)
+STRUCT(packet,           packet_l,    packet_m,    packet_refused, packet_faulty)
+HOLDS(refusal, refusal,  none,        none,        wrong_sum,      wrong_pad)
+HOLDS(fields, fields,    fields_l,    fields_m,    no_fields,      no_fields)
+WORD(length,             40,          80,          0,              0)
+WORD(data_length,        12,          38,          0,              0)
+WORD(header_sum,         0x3B63,      0x1BC2,      0,              0)
+WORD(data_sum,           0x4287,      0xBE1EDABD,  0,              0)
+HOLDS(header, part,      header_l,    header_m,    no_part,        no_part)
+HOLDS(secondary, part,   secondary_l, secondary_m, no_part,        no_part)
+HOLDS(body, part,        body_l,      body_m,      no_part,        no_part)
+HOLDS(filler, part,      filler_l,    filler_m,    no_part,        no_part)
+HOLDS(sum, part,         sum_l,       sum_m,       no_part,        no_part)
 END
 
-STRUCT(list,             list_l, list_m, list_refused)
-HOLDS(refusal, refusal,  none,   none,   short_list)
-WORD(count,              1,      2,      0)
+STRUCT(list,             list_l, list_m, list_refused, list_faulty)
+HOLDS(refusal, refusal,  none,   none,   short_list,   wrong_pad)
+WORD(count,              1,      2,      0,            0)
 END
 
-STRUCT(message,          message_l, message_m,    message_refused)
-HOLDS(refusal, refusal,  none,      none,         no_message)
-WORD(time,               0,         0x1100000021, 0)
-WORD(id,                 3,         0x98760005,   0)
-WORD(start,              32,        68,           0)
-WORD(length,             3,         5,            0)
+STRUCT(message,          message_l, message_m,    message_refused, message_faulty)
+HOLDS(refusal, refusal,  none,      none,         no_message,      wrong_pad)
+WORD(time,               0,         0x1100000021, 0,               0)
+WORD(id,                 3,         0x98760005,   0,               0)
+WORD(start,              32,        68,           0,               0)
+WORD(length,             3,         5,            0,               0)
 END
 
-STRUCT(recording,        recording_l, recording_filled, recording_refused)
-HOLDS(refusal, refusal,  none,        none,             wrong_sum)
-WORD(accepted,           1,           3,                3)
-WORD(reached,            40,          260,              260)
+STRUCT(recording,        recording_l, recording_filled, recording_refused, recording_faulty)
+HOLDS(refusal, refusal,  none,        none,             wrong_sum,         wrong_pad)
+WORD(accepted,           1,           3,                3,                 1)
+WORD(reached,            40,          260,              260,               40)
 END
 
-STRUCT(written,          written_l, written_m, written_refused)
-HOLDS(refusal, refusal,  none,      none,      short_output)
-WORD(length,             40,        80,        0)
+STRUCT(written,          written_l, written_m, written_refused, written_faulty)
+HOLDS(refusal, refusal,  none,      none,      short_output,    given_pad)
+WORD(length,             40,        80,        0,               0)
 END
 
-STRUCT(draft,            opened_l, full_l, opened_m, begun_m, full_m, open_refused, add_refused,  close_refused)
-HOLDS(refusal, refusal,  none,     none,   none,     none,    none,   wrong_type,   short_buffer, outside)
-WORD(used,               4,        12,     4,        20,      38,     38,           38,           38)
-WORD(blocks,             0,        1,      0,        1,       2,      2,            2,            2)
-WORD(type,               0x50,     0x50,   0x30,     0x30,    0x30,   0x30,         0x30,         0x30)
-WORD(rule,               0,        0,      3,        3,       3,      3,            3,            3)
+STRUCT(draft,            opened_l, full_l, opened_m, begun_m, full_m, open_refused, add_refused,  close_refused, add_faulty, close_faulty)
+HOLDS(refusal, refusal,  none,     none,   none,     none,    none,   wrong_type,   short_buffer, outside,       late_time,  no_block)
+WORD(used,               4,        12,     4,        20,      38,     38,           38,           38,            4,          4)
+WORD(blocks,             0,        1,      0,        1,       2,      2,            2,            2,             0,          0)
+WORD(type,               0x50,     0x50,   0x30,     0x30,    0x30,   0x30,         0x30,         0x30,          0x30,       0x30)
+WORD(rule,               0,        0,      3,        3,       3,      3,            3,            3,             3,          3)
 END

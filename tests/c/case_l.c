@@ -10,6 +10,7 @@
 
 _Static_assert(sizeof(size_t) == 8, "the library is for x86-64");
 _Static_assert(CH11_STATE == 1 && CH11_DATA_SUM == 13 && CH11_ROOM == 16 && CH11_RANGE == 17, "names of refusals");
+_Static_assert(CH11_REASON_CHANNEL_WORD == 1 && CH11_REASON_PAD == 5 && CH11_REASON_MISSING == 7, "names of reasons");
 
 /* ---- a recording of the packets */
 
@@ -25,6 +26,18 @@ static void fill_recording(void)
     memcpy(recording + 220, L, sizeof L);
     memcpy(recording + FILLED, L, sizeof L);
     recording[FILLED + 32] = 0x40;
+}
+
+/* L, then from 40 an L whose pad byte is not zero; its data sum is right. */
+enum { FAULTY_AT = 40, FAULTY = 80 };
+static uint8_t faulty[FAULTY];
+
+static void fill_faulty(void)
+{
+    memcpy(faulty, L, sizeof L);
+    memcpy(faulty + FAULTY_AT, L, sizeof L);
+    faulty[FAULTY_AT + 35] = 0x01;
+    faulty[FAULTY_AT + 39] = 0x43;
 }
 
 /* ---- comparing */
@@ -111,17 +124,20 @@ static void read_packets(void)
     ANSWER(packet, packet_l, l, ch11_read_packet(L, 40, 0, 40, &l));
     ANSWER(packet, packet_m, m, ch11_read_packet(recording, RECORDING, M_AT, FILLED, &m));
     ANSWER(packet, packet_refused, p, ch11_read_packet(recording, RECORDING, FILLED, RECORDING, &p));
+    ANSWER(packet, packet_faulty, p, ch11_read_packet(faulty, FAULTY, FAULTY_AT, FAULTY, &p));
 }
 
-/* Three calls, each with lists of 3 entries, of which fewer of the starts may be lent; entries that aren't written stay 7 and 9. */
+/* Each call with lists of 3 entries, of which fewer of the starts may be lent; entries that aren't written stay 7 and 9. */
 static void list_messages(void)
 {
-    uint32_t starts[3][3] = {{7, 7, 7}, {7, 7, 7}, {7, 7, 7}}, lengths[3][3] = {{9, 9, 9}, {9, 9, 9}, {9, 9, 9}};
-    const uint32_t want_starts[3][3] = {{32, 7, 7}, {52, 68, 7}, {7, 7, 7}}, want_lengths[3][3] = {{3, 9, 9}, {3, 5, 9}, {9, 9, 9}};
+    uint32_t starts[4][3] = {{7, 7, 7}, {7, 7, 7}, {7, 7, 7}, {7, 7, 7}}, lengths[4][3] = {{9, 9, 9}, {9, 9, 9}, {9, 9, 9}, {9, 9, 9}};
+    const uint32_t want_starts[4][3] = {{32, 7, 7}, {52, 68, 7}, {7, 7, 7}, {7, 7, 7}};
+    const uint32_t want_lengths[4][3] = {{3, 9, 9}, {3, 5, 9}, {9, 9, 9}, {9, 9, 9}};
     struct ch11_list a;
     ANSWER(list, list_l, a, ch11_list_messages(L, 40, 0, 40, starts[0], 3, lengths[0], 3, &a));
     ANSWER(list, list_m, a, ch11_list_messages(recording, RECORDING, M_AT, RECORDING, starts[1], 2, lengths[1], 3, &a));
     ANSWER(list, list_refused, a, ch11_list_messages(recording, RECORDING, M_AT, RECORDING, starts[2], 1, lengths[2], 3, &a));
+    ANSWER(list, list_faulty, a, ch11_list_messages(faulty, FAULTY, FAULTY_AT, FAULTY, starts[3], 3, lengths[3], 3, &a));
     check_bytes("starts", starts, want_starts, sizeof starts);
     check_bytes("lengths", lengths, want_lengths, sizeof lengths);
 }
@@ -132,6 +148,7 @@ static void single_messages(void)
     ANSWER(message, message_l, a, ch11_message(L, 40, 0, 40, 0, &a));
     ANSWER(message, message_m, a, ch11_message(recording, RECORDING, M_AT, RECORDING, 1, &a));
     ANSWER(message, message_refused, a, ch11_message(recording, RECORDING, M_AT, RECORDING, 2, &a));
+    ANSWER(message, message_faulty, a, ch11_message(faulty, FAULTY, FAULTY_AT, FAULTY, 0, &a));
 }
 
 static void read_recordings(void)
@@ -140,6 +157,7 @@ static void read_recordings(void)
     ANSWER(recording, recording_l, r, ch11_read_recording(L, 40, 0, 40, &r));
     ANSWER(recording, recording_filled, r, ch11_read_recording(recording, RECORDING, M_AT, FILLED, &r));
     ANSWER(recording, recording_refused, r, ch11_read_recording(recording, RECORDING, M_AT, RECORDING, &r));
+    ANSWER(recording, recording_faulty, r, ch11_read_recording(faulty, FAULTY, 0, FAULTY, &r));
 }
 
 static void write_packets(void)
@@ -148,6 +166,7 @@ static void write_packets(void)
     struct ch11_written w;
     memset(out, 0xEE, sizeof out);
     ANSWER(written, written_refused, w, ch11_write_packet(&m.fields, M + 36, 38, out, 79, &w));
+    ANSWER(written, written_faulty, w, ch11_write_packet(&l.fields, faulty + FAULTY_AT + 24, 12, out, 90, &w));
     check_untouched("written_refused", out, 90);
 
     ANSWER(written, written_l, w, ch11_write_packet(&l.fields, L + 24, 12, out, 90, &w));
@@ -178,6 +197,8 @@ static void build_body_of_m(void)
     struct ch11_draft d = {0};
     memset(buf, 0xEE, sizeof buf);
     STEP(opened_m, d, ch11_open(&d, buf, 40, 0x30, CH11_IEEE_1588));
+    STEP(add_faulty, d, ch11_add(&d, buf, 40, 1000000000, 0xABCD, M + 52, 3));
+    STEP(close_faulty, d, ch11_close(&d, buf, 40));
     STEP(begun_m, d, ch11_add(&d, buf, 40, 0x1000000020, 0xABCD, M + 52, 3));
     STEP(full_m, d, ch11_add(&d, buf, 40, 0x1100000021, 0x9876, M + 68, 5));
     STEP(full_m, d, ch11_close(&d, buf, 40));
@@ -194,6 +215,7 @@ static void build_body_of_m(void)
 int main(void)
 {
     fill_recording();
+    fill_faulty();
     read_packets();
     list_messages();
     single_messages();

@@ -69,7 +69,7 @@ impl Draft {
 
     /// Opens a body of this type ([`MESSAGE`](crate::MESSAGE) or [`UART`](crate::UART)) and time rule
     /// at the first byte of `buf`. Refused: another type, or no times in a message body
-    /// ([`Reason::Range`](crate::Reason::Range)); then no room.
+    /// ([`Number::Range`](crate::Number::Range)); then no room.
     pub fn open(self, buf: &mut [u8], kind: u8, rule: TimeRule) -> Result<Draft, Denied> {
         let (at, len) = (buf.as_mut_ptr(), buf.len());
         // SAFETY: the pointer and length are those of `buf`; `state` is our own.

@@ -9,7 +9,7 @@
 //! Every reader looks at a window: the bytes `buf[start..end]`. It takes the whole buffer and the
 //! two numbers, so that all places are counted from the buffer's first byte, and so that a buffer
 //! may be filled in part: what stands behind `end` has no say. A window that isn't within the
-//! buffer is refused ([`Reason::State`]); it is no panic.
+//! buffer is refused ([`Number::State`]); it is no panic.
 //!
 //! ```
 //! fn main() -> Result<(), ch11::Refusal> {
@@ -42,7 +42,7 @@ pub use messages::{list_messages, message, message_count, messages, Message, Mes
 pub use packet::{
     packets, read_packet, read_recording, write_packet, Fields, Packet, Packets, Part, Recording,
 };
-pub use refusal::{Reason, Refusal};
+pub use refusal::{Number, Reason, Refusal};
 
 /// The data type of message packets, whose bodies are opened. A time is stored with each message.
 pub const MESSAGE: u8 = 0x30;

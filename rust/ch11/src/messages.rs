@@ -2,14 +2,14 @@
 //! `buf[start..end]` whole, with all its tests; a packet whose type isn't opened has no messages.
 
 use crate::raw;
-use crate::refusal::{unless_refused, Reason, Refusal};
+use crate::refusal::{unless_refused, Number, Refusal};
 use std::iter::{FusedIterator, Zip};
 use std::vec::IntoIter;
 
 /// Lists the messages of the packet at the start of the window `buf[start..end]`: entry k of the two
 /// lists becomes the start of message k, counted from the packet's first byte, and its length. Gives
 /// the number of messages; entries past it are untouched, and all are at a refusal. With more
-/// messages than the shorter list holds ([`Reason::Room`]) [`Refusal::room`] is their number.
+/// messages than the shorter list holds ([`Number::Room`]) [`Refusal::room`] is their number.
 pub fn list_messages(
     buf: &[u8],
     start: usize,
@@ -39,7 +39,7 @@ pub fn list_messages(
 /// The number of messages in the packet at the start of the window `buf[start..end]`.
 pub fn message_count(buf: &[u8], start: usize, end: usize) -> Result<usize, Refusal> {
     match list_messages(buf, start, end, &mut [], &mut []) {
-        Err(refusal) if refusal.reason == Reason::Room => Ok(refusal.room),
+        Err(refusal) if refusal.number == Number::Room => Ok(refusal.room),
         counted => counted,
     }
 }
@@ -100,7 +100,7 @@ pub struct Message<'a> {
 }
 
 /// The message of this number, from 0, in the packet at the start of the window `buf[start..end]`;
-/// [`Reason::Range`] where there is none.
+/// [`Number::Range`] where there is none.
 ///
 /// Each call reads the whole packet and walks to the message from the first one, so that fetching
 /// all of them this way costs as much as their number times the packet's length. Use [`messages`]

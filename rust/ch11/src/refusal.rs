@@ -4,11 +4,11 @@ use crate::raw;
 use std::error::Error;
 use std::fmt;
 
-/// Why a call said no. The tests are made in this order, save where a call says otherwise, and the
-/// first that applies is given.
+/// Which refusal it is, by its number in document 01's table. The tests are made in this order, save
+/// where a call says otherwise, and the first that applies is given.
 #[derive(Clone, Copy, Debug, PartialEq, Eq, Hash)]
 #[non_exhaustive]
-pub enum Reason {
+pub enum Number {
     /// 1: the window or a builder's used count is outside its buffer; or that count is under 4, or
     /// the builder's state has a type or time rule that opening refuses, or too many blocks.
     State,
@@ -38,7 +38,8 @@ pub enum Reason {
     DataSum,
     /// 14: filler that isn't zero.
     Filler,
-    /// 15: an opened body breaks its layout. From a builder: a time out of form, or no block.
+    /// 15: an opened body breaks its layout; [`Refusal::reason`] is the rule broken. From a builder:
+    /// a time out of form, or no block.
     Layout,
     /// 16: no room in a list or output; [`Refusal::room`] is the room needed.
     Room,
@@ -48,70 +49,116 @@ pub enum Reason {
     Other(u64),
 }
 
-/// The reasons that have a name, with their numbers and words.
-const NAMED: [(u64, Reason, &str); 17] = [
-    (1, Reason::State, "window or builder's state out of bounds"),
-    (2, Reason::Short, "fewer than 24 bytes in the window"),
-    (3, Reason::Sync, "wrong sync"),
-    (4, Reason::HeaderSum, "wrong header sum"),
-    (5, Reason::Version, "version other than 1 to 9"),
-    (6, Reason::Type, "reserved type"),
-    (7, Reason::Flags, "flags break a rule"),
-    (8, Reason::Channel, "channel 0 with another type"),
-    (9, Reason::Length, "packet or data length breaks a rule"),
-    (10, Reason::Cut, "packet longer than the window"),
-    (11, Reason::SecondarySum, "wrong secondary sum"),
-    (12, Reason::Secondary, "secondary header breaks a rule"),
-    (13, Reason::DataSum, "wrong data sum"),
-    (14, Reason::Filler, "filler not zero"),
-    (15, Reason::Layout, "body breaks its layout"),
-    (16, Reason::Room, "no room in a list or output"),
-    (17, Reason::Range, "input or message number out of range"),
-];
-
-impl Reason {
-    /// The number of this reason, by which the C interface and the documents name it.
-    pub fn number(self) -> u64 {
-        match self {
-            Reason::Other(number) => number,
-            named => NAMED
-                .iter()
-                .find(|entry| entry.1 == named)
-                .map_or(0, |entry| entry.0),
-        }
-    }
-
-    /// The reason of this number.
-    pub fn from_number(number: u64) -> Reason {
-        let entry = NAMED.iter().find(|entry| entry.0 == number);
-        entry.map_or(Reason::Other(number), |entry| entry.1)
-    }
+/// Which rule of its layout an opened body breaks, with [`Number::Layout`]. The channel word is
+/// looked at first, then block by block; of a block that breaks several the lowest is given.
+#[derive(Clone, Copy, Debug, PartialEq, Eq, Hash)]
+#[non_exhaustive]
+pub enum Reason {
+    /// 1: the channel word breaks a rule, or the body has under 4 bytes.
+    ChannelWord,
+    /// 2: the body ends within a block: in its time, ID word, bytes or pad byte.
+    CutShort,
+    /// 3: a block's time is out of form.
+    Time,
+    /// 4: a block has a length of zero.
+    LengthZero,
+    /// 5: the pad byte behind an odd number of bytes isn't zero.
+    Pad,
+    /// 6: bytes are left over behind the blocks that the channel word counts.
+    LeftOver,
+    /// 7: the body ends where a block must begin.
+    Missing,
+    /// A reason that this version of the wrapper has no name for.
+    Other(u64),
 }
 
-impl fmt::Display for Reason {
-    fn fmt(&self, f: &mut fmt::Formatter<'_>) -> fmt::Result {
-        let entry = NAMED.iter().find(|entry| entry.1 == *self);
-        f.write_str(entry.map_or("a reason unknown to this version", |entry| entry.2))
-    }
+/// Makes an enum of the library's numbers out of a table: each with its name here and its words.
+macro_rules! numbered {
+    ($name:ident, $unknown:literal, $($number:literal $case:ident $words:literal,)+) => {
+        impl $name {
+            /// The number by which the C interface and the documents name it.
+            pub fn value(self) -> u64 {
+                match self {
+                    $($name::$case => $number,)+
+                    $name::Other(number) => number,
+                }
+            }
+
+            /// The one of this number.
+            pub fn from_value(value: u64) -> $name {
+                match value {
+                    $($number => $name::$case,)+
+                    other => $name::Other(other),
+                }
+            }
+        }
+
+        impl fmt::Display for $name {
+            fn fmt(&self, f: &mut fmt::Formatter<'_>) -> fmt::Result {
+                f.write_str(match self {
+                    $($name::$case => $words,)+
+                    $name::Other(_) => $unknown,
+                })
+            }
+        }
+    };
+}
+
+numbered! {
+    Number, "a number unknown to this version",
+    1 State "window or builder's state out of bounds",
+    2 Short "fewer than 24 bytes in the window",
+    3 Sync "wrong sync",
+    4 HeaderSum "wrong header sum",
+    5 Version "version other than 1 to 9",
+    6 Type "reserved type",
+    7 Flags "flags break a rule",
+    8 Channel "channel 0 with another type",
+    9 Length "packet or data length breaks a rule",
+    10 Cut "packet longer than the window",
+    11 SecondarySum "wrong secondary sum",
+    12 Secondary "secondary header breaks a rule",
+    13 DataSum "wrong data sum",
+    14 Filler "filler not zero",
+    15 Layout "body breaks its layout",
+    16 Room "no room in a list or output",
+    17 Range "input or message number out of range",
+}
+
+numbered! {
+    Reason, "a reason unknown to this version",
+    1 ChannelWord "wrong channel word, or under 4 bytes",
+    2 CutShort "block cut short",
+    3 Time "time out of form",
+    4 LengthZero "length zero",
+    5 Pad "pad not zero",
+    6 LeftOver "bytes after the counted blocks",
+    7 Missing "body ends where a block must begin",
 }
 
 /// What a call answers when it says no.
 #[derive(Clone, Copy, Debug, PartialEq, Eq, Hash)]
 pub struct Refusal {
-    /// Why.
-    pub reason: Reason,
+    /// Which refusal.
+    pub number: Number,
     /// Where, counted from the buffer's first byte: the start of the packet, or for
-    /// [`Reason::Layout`] the channel word or block at fault. The writer and the builder give 0.
+    /// [`Number::Layout`] the channel word or block at fault. The writer and the builder give 0.
     pub place: usize,
-    /// With [`Reason::Room`] the room needed: messages for a list, otherwise the bytes of the whole
+    /// With [`Number::Room`] the room needed: messages for a list, otherwise the bytes of the whole
     /// packet or body. Else 0.
     pub room: usize,
+    /// With [`Number::Layout`] why: the rule broken. Else `None`.
+    pub reason: Option<Reason>,
 }
 
+/// Which, where, what and why: `15 at 68: body breaks its layout: block cut short`.
 impl fmt::Display for Refusal {
     fn fmt(&self, f: &mut fmt::Formatter<'_>) -> fmt::Result {
-        let (number, place) = (self.reason.number(), self.place);
-        write!(f, "refused with {number} at byte {place}: {}", self.reason)?;
+        let (number, place) = (self.number.value(), self.place);
+        write!(f, "{number} at {place}: {}", self.number)?;
+        if let Some(reason) = self.reason {
+            write!(f, ": {reason}")?;
+        }
         if self.room > 0 {
             write!(f, " ({} needed)", self.room)?;
         }
@@ -126,9 +173,13 @@ pub(crate) fn refused(refusal: raw::Refusal) -> Option<Refusal> {
     match refusal.number {
         0 => None,
         number => Some(Refusal {
-            reason: Reason::from_number(number),
+            number: Number::from_value(number),
             place: refusal.place as usize,
             room: refusal.room as usize,
+            reason: match refusal.reason {
+                0 => None,
+                reason => Some(Reason::from_value(reason)),
+            },
         }),
     }
 }

@@ -3,7 +3,7 @@
 
 mod cases;
 
-use cases::{recording, shown, FILLED, L, M, M_AT};
+use cases::{faulty, recording, shown, FAULTY_AT, FILLED, L, M, M_AT};
 use ch11::raw;
 use std::fmt::Debug;
 use std::mem::{size_of, MaybeUninit};
@@ -77,6 +77,7 @@ fn packets() {
     answer!("packet_l": ch11_read_packet(L.as_ptr(), 40, 0, 40));
     answer!("packet_m": ch11_read_packet(buf.as_ptr(), 300, M_AT, FILLED));
     answer!("packet_refused": ch11_read_packet(buf.as_ptr(), 300, FILLED, 300));
+    answer!("packet_faulty": ch11_read_packet(faulty().as_ptr(), 80, FAULTY_AT, 80));
 }
 
 /// Lists into 3 entries, of which `held` of the starts are lent; those that aren't written stay 7
@@ -97,6 +98,8 @@ fn lists() {
     assert_eq!(list!("list_l", L, 0, 3), ([32, 7, 7], [3, 9, 9]));
     assert_eq!(list!("list_m", buf, M_AT, 2), ([52, 68, 7], [3, 5, 9]));
     assert_eq!(list!("list_refused", buf, M_AT, 1), ([7; 3], [9; 3]));
+    let buf = faulty();
+    assert_eq!(list!("list_faulty", buf, FAULTY_AT, 3), ([7; 3], [9; 3]));
 }
 
 #[test]
@@ -105,6 +108,7 @@ fn single_messages() {
     answer!("message_l": ch11_message(L.as_ptr(), 40, 0, 40, 0));
     answer!("message_m": ch11_message(buf.as_ptr(), 300, M_AT, 300, 1));
     answer!("message_refused": ch11_message(buf.as_ptr(), 300, M_AT, 300, 2));
+    answer!("message_faulty": ch11_message(faulty().as_ptr(), 80, FAULTY_AT, 80, 0));
 }
 
 #[test]
@@ -113,6 +117,7 @@ fn recordings() {
     answer!("recording_l": ch11_read_recording(L.as_ptr(), 40, 0, 40));
     answer!("recording_filled": ch11_read_recording(buf.as_ptr(), 300, M_AT, FILLED));
     answer!("recording_refused": ch11_read_recording(buf.as_ptr(), 300, M_AT, 300));
+    answer!("recording_faulty": ch11_read_recording(faulty().as_ptr(), 80, 0, 80));
 }
 
 #[test]
@@ -120,8 +125,10 @@ fn written_packets() {
     let l = answer!("packet_l": ch11_read_packet(L.as_ptr(), 40, 0, 40)).fields;
     let m = answer!("packet_m": ch11_read_packet(recording().as_ptr(), 300, M_AT, FILLED)).fields;
     let (of_l, of_m) = (L[24..36].as_ptr(), M[36..74].as_ptr());
+    let other = &faulty()[FAULTY_AT + 24..FAULTY_AT + 36];
     let mut out = [0xEE; 90];
     answer!("written_refused": ch11_write_packet(&m, of_m, 38, out.as_mut_ptr(), 79));
+    answer!("written_faulty": ch11_write_packet(&l, other.as_ptr(), 12, out.as_mut_ptr(), 90));
     assert_eq!(out, [0xEE; 90]);
     answer!("written_l": ch11_write_packet(&l, of_l, 12, out.as_mut_ptr(), 90));
     assert_eq!((&out[..40], &out[40..]), (&L[..], &[0xEE; 50][..]));
@@ -143,6 +150,8 @@ fn body_of_l_built() {
 fn body_of_m_built() {
     let (mut state, mut buf, mut other) = (raw::Draft::default(), [0xEE; 40], [0xEE; 40]);
     step!("opened_m", state, buf => ch11_open(0x30, 3));
+    step!("add_faulty", state, buf => ch11_add(1_000_000_000, 0xABCD, b"abc".as_ptr(), 3));
+    step!("close_faulty", state, buf => ch11_close());
     step!("begun_m", state, buf => ch11_add(0x10_0000_0020, 0xABCD, b"abc".as_ptr(), 3));
     step!("full_m", state, buf => ch11_add(0x11_0000_0021, 0x9876, b"vwxyz".as_ptr(), 5));
     step!("full_m", state, buf => ch11_close());

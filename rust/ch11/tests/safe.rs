@@ -2,14 +2,23 @@
 
 mod cases;
 
-use cases::{recording, shown, FILLED, L, M, M_AT};
-use ch11::{Draft, Fields, Reason, Recording, Refusal, TimeRule, MESSAGE, UART};
+use cases::{faulty, recording, shown, FAULTY_AT, FILLED, L, M, M_AT};
+use ch11::{Draft, Fields, Number, Reason, Recording, Refusal, TimeRule, MESSAGE, UART};
 
-fn refusal(reason: Reason, place: usize, room: usize) -> Refusal {
+fn refusal(number: Number, place: usize, room: usize) -> Refusal {
     Refusal {
-        reason,
+        number,
         place,
         room,
+        reason: None,
+    }
+}
+
+/// An opened body breaks its layout there, for this reason.
+fn fault(place: usize, reason: Reason) -> Refusal {
+    Refusal {
+        reason: Some(reason),
+        ..refusal(Number::Layout, place, 0)
     }
 }
 
@@ -40,7 +49,7 @@ fn window_outside_the_buffer() {
         (0, usize::MAX),
     ];
     for (start, end) in outside {
-        let refused = refusal(Reason::State, start, 0);
+        let refused = refusal(Number::State, start, 0);
         assert_eq!(ch11::read_packet(&L, start, end), Err(refused));
         let items: Vec<_> = ch11::packets(&L, start, end).collect();
         assert_eq!(items, [Err(refused)]);
@@ -73,11 +82,11 @@ fn packets_end_at_the_first_refusal() {
     let buf = recording();
     let mut packets = ch11::packets(&buf, M_AT, buf.len());
     assert_eq!(packets.by_ref().take(3).filter(Result::is_ok).count(), 3);
-    assert_eq!(packets.next(), Some(Err(refusal(Reason::DataSum, 260, 0))));
+    assert_eq!(packets.next(), Some(Err(refusal(Number::DataSum, 260, 0))));
     assert!(packets.next().is_none() && packets.next().is_none());
 
     let cut = ch11::packets(&buf, M_AT, FILLED - 1).last();
-    assert_eq!(cut, Some(Err(refusal(Reason::Cut, 220, 0))));
+    assert_eq!(cut, Some(Err(refusal(Number::Cut, 220, 0))));
 }
 
 #[test]
@@ -110,7 +119,7 @@ fn leftovers_are_not_seen() {
         ch11::read_recording(&clean, 0, 40)
     );
     assert_eq!(ch11::packets(&buf, 0, 40).count(), 1);
-    let cut = refusal(Reason::Cut, 0, 0);
+    let cut = refusal(Number::Cut, 0, 0);
     assert_eq!(ch11::read_packet(&buf, 0, 39), Err(cut));
     assert_eq!(ch11::messages(&buf, 0, 39).err(), Some(cut));
 }
@@ -127,13 +136,13 @@ fn messages_of_a_packet() {
     assert_eq!((last.time, last.id), (0x11_0000_0021, 0x9876_0005));
     assert_eq!((last.start, last.bytes), (68, &b"vwxyz"[..]));
     let none = ch11::message(&buf, M_AT, FILLED, 2);
-    assert_eq!(none, Err(refusal(Reason::Range, 100, 0)));
+    assert_eq!(none, Err(refusal(Number::Range, 100, 0)));
 
     let (mut starts, mut lengths) = ([7; 3], [9; 2]);
     let count = ch11::list_messages(&buf, M_AT, FILLED, &mut starts, &mut lengths);
     assert_eq!((count, starts, lengths), (Ok(2), [52, 68, 7], [3, 5]));
     let count = ch11::list_messages(&buf, M_AT, FILLED, &mut starts, &mut lengths[..1]);
-    assert_eq!(count, Err(refusal(Reason::Room, 100, 2)));
+    assert_eq!(count, Err(refusal(Number::Room, 100, 2)));
 }
 
 #[test]
@@ -150,7 +159,7 @@ fn type_that_is_not_opened() {
     assert_eq!(ch11::messages(&out, 0, 28).unwrap().next(), None);
     assert_eq!(
         ch11::message(&out, 0, 28, 0),
-        Err(refusal(Reason::Range, 0, 0))
+        Err(refusal(Number::Range, 0, 0))
     );
 }
 
@@ -166,11 +175,11 @@ fn writer_refusals() {
     let fields = ch11::read_packet(&M, 0, 80).unwrap().fields;
     let (mut late, mut new) = (fields, fields);
     (late.rtc, new.version) = (1 << 48, 10);
-    assert_eq!(write(late, body, 80), refusal(Reason::Range, 0, 0));
-    assert_eq!(write(new, body, 80), refusal(Reason::Version, 0, 0));
-    assert_eq!(write(fields, &body[1..], 80), refusal(Reason::Layout, 0, 0));
-    assert_eq!(write(fields, &[], 80), refusal(Reason::Length, 0, 0));
-    assert_eq!(write(fields, body, 0), refusal(Reason::Room, 0, 80));
+    assert_eq!(write(late, body, 80), refusal(Number::Range, 0, 0));
+    assert_eq!(write(new, body, 80), refusal(Number::Version, 0, 0));
+    assert_eq!(write(fields, &body[..37], 80), fault(0, Reason::CutShort));
+    assert_eq!(write(fields, &[], 80), refusal(Number::Length, 0, 0));
+    assert_eq!(write(fields, body, 0), refusal(Number::Room, 0, 80));
 }
 
 #[test]
@@ -183,7 +192,7 @@ fn body_built_in_a_growing_buffer() {
     let denied = draft
         .add(&mut buf, 0x11_0000_0021, 0x9876, b"vwxyz")
         .unwrap_err();
-    assert_eq!(denied.refusal, refusal(Reason::Room, 0, 38));
+    assert_eq!(denied.refusal, refusal(Number::Room, 0, 38));
     assert_eq!((denied.draft.used(), denied.draft.blocks()), (20, 1));
 
     buf.resize(denied.refusal.room, 0);
@@ -203,19 +212,19 @@ fn refused_steps_hand_back_the_state() {
         .open(&mut buf, MESSAGE, TimeRule::None)
         .unwrap_err();
     assert_eq!(
-        (denied.refusal.reason, &denied.draft),
-        (Reason::Range, &Draft::new())
+        (denied.refusal.number, &denied.draft),
+        (Number::Range, &Draft::new())
     );
     let draft = denied.draft.open(&mut buf, UART, TimeRule::None).unwrap();
     let denied = draft.close(&mut buf).unwrap_err();
     assert_eq!(
-        (denied.refusal.reason, denied.draft.used()),
-        (Reason::Layout, 4)
+        (denied.refusal, denied.draft.used()),
+        (fault(0, Reason::Missing), 4)
     );
     let denied = denied.draft.add(&mut buf, 1, 0, b"ABC").unwrap_err();
     assert_eq!(
-        (denied.refusal.reason, denied.draft.used()),
-        (Reason::Range, 4)
+        (denied.refusal, denied.draft.used()),
+        (refusal(Number::Range, 0, 0), 4)
     );
     let draft = denied.draft.add(&mut buf, 0, 0, b"ABC").unwrap();
     assert_eq!(draft.close(&mut buf), Ok(12));
@@ -229,10 +238,10 @@ fn time_rules() {
         let draft = Draft::new().open(&mut buf, UART, rule).unwrap();
         draft
             .add(&mut buf, time, 0, b"a")
-            .map_err(|denied| denied.refusal.reason)
+            .map_err(|denied| denied.refusal)
             .err()
     };
-    let layout = Some(Reason::Layout);
+    let layout = Some(fault(0, Reason::Time));
     assert_eq!(
         (
             add(TimeRule::Counter, (1 << 48) - 1),
@@ -255,36 +264,73 @@ fn time_rules() {
     );
 }
 
+/// A fault is told by every reader as the one-packet reader tells it.
 #[test]
-fn numbers_and_words() {
-    // The header's list of refusals: `CH11_DATA_SUM = 13` there is `DataSum` here.
+fn reasons_passed_on() {
+    let buf = faulty();
+    let told = fault(68, Reason::Pad);
+    assert_eq!(ch11::read_packet(&buf, FAULTY_AT, 80), Err(told));
+    assert_eq!(ch11::packets(&buf, 0, 80).nth(1), Some(Err(told)));
+    assert_eq!(ch11::message_count(&buf, FAULTY_AT, 80), Err(told));
+    assert_eq!(ch11::messages(&buf, FAULTY_AT, 80).err(), Some(told));
+    assert_eq!(ch11::message(&buf, FAULTY_AT, 80, 0), Err(told));
+    assert_eq!(ch11::read_recording(&buf, 0, 80).refusal, Some(told));
+}
+
+/// The names and numbers in one of the header's lists, whose names begin so: behind that of 0, up to its end.
+fn header_list(prefix: &str) -> Vec<(String, u64)> {
     let header = include_str!("../../../include/ch11.h");
-    let (_, list) = header.split_once("CH11_NONE = 0,").unwrap();
-    for entry in list.split("};").next().unwrap().split("CH11_").skip(1) {
+    let (_, list) = header
+        .split_once(&format!("    {prefix}NONE = 0,"))
+        .unwrap();
+    let entries = list.split("};").next().unwrap().split(prefix).skip(1);
+    let named = entries.map(|entry| {
         let (name, rest) = entry.split_once(" = ").unwrap();
         let digits = rest.split(|c: char| !c.is_ascii_digit()).next().unwrap();
-        let reason = Reason::from_number(digits.parse().unwrap());
-        assert_eq!(reason.number().to_string(), digits);
-        assert_eq!(format!("{reason:?}").to_uppercase(), name.replace('_', ""));
+        (name.replace('_', ""), digits.parse().unwrap())
+    });
+    named.collect()
+}
+
+#[test]
+fn numbers_and_words() {
+    // The header's lists: `CH11_DATA_SUM = 13` there is `DataSum` here.
+    let numbers = header_list("CH11_");
+    assert_eq!(numbers.len(), 17);
+    for (name, value) in numbers {
+        let number = Number::from_value(value);
+        assert_eq!(number.value(), value);
+        assert_eq!(format!("{number:?}").to_uppercase(), name);
     }
-    assert_eq!((Reason::State.number(), Reason::DataSum.number()), (1, 13));
-    assert_eq!((Reason::Room.number(), Reason::Range.number()), (16, 17));
-    assert_eq!(Reason::from_number(99), Reason::Other(99));
+    let reasons = header_list("CH11_REASON_");
+    assert_eq!(reasons.len(), 7);
+    for (name, value) in reasons {
+        let reason = Reason::from_value(value);
+        assert_eq!(reason.value(), value);
+        assert_eq!(format!("{reason:?}").to_uppercase(), name);
+    }
+    assert_eq!((Number::State.value(), Number::DataSum.value()), (1, 13));
+    assert_eq!((Number::Room.value(), Number::Range.value()), (16, 17));
+    assert_eq!((Reason::Time.value(), Reason::Missing.value()), (3, 7));
+    assert_eq!(Number::from_value(99), Number::Other(99));
+    assert_eq!(Reason::from_value(99), Reason::Other(99));
 
     let words = |refusal: Refusal| refusal.to_string();
-    let wrong_sum = refusal(Reason::DataSum, 40, 0);
     assert_eq!(
-        words(wrong_sum),
-        "refused with 13 at byte 40: wrong data sum"
+        words(refusal(Number::DataSum, 40, 0)),
+        "13 at 40: wrong data sum"
     );
-    let no_room = refusal(Reason::Room, 0, 80);
     assert_eq!(
-        words(no_room),
-        "refused with 16 at byte 0: no room in a list or output (80 needed)"
+        words(refusal(Number::Room, 0, 80)),
+        "16 at 0: no room in a list or output (80 needed)"
+    );
+    assert_eq!(
+        words(fault(68, Reason::Missing)),
+        "15 at 68: body breaks its layout: body ends where a block must begin"
     );
 
     let denied = Draft::new().close(&mut []).unwrap_err();
     assert_eq!(denied.to_string(), denied.refusal.to_string());
     let boxed: Box<dyn std::error::Error> = Box::new(denied);
-    assert!(boxed.to_string().starts_with("refused with 1 at byte 0: "));
+    assert!(boxed.to_string().starts_with("1 at 0: "));
 }

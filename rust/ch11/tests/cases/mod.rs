@@ -43,6 +43,17 @@ pub fn recording() -> Vec<u8> {
     buf
 }
 
+/// The place of the second packet in `faulty()`.
+pub const FAULTY_AT: usize = 40;
+
+/// L, then from 40 an L whose pad byte is not zero; its data sum is right.
+pub fn faulty() -> Vec<u8> {
+    let mut buf = [L, L].concat();
+    buf[FAULTY_AT + 35] = 0x01;
+    buf[FAULTY_AT + 39] = 0x43;
+    buf
+}
+
 /// What is expected of the structs, field by field; the table itself says how it is read.
 const TABLE: &str = include_str!("../../../../tests/fields.h");
 
