@@ -34,9 +34,9 @@ use Rattle.body.proofs.Reading.{ReadingBody, reading-first, reading-ahe
 abbrev pub FaultFor : (ℕ → Type 0) → ℕ → Refusal → Type 0
 FaultFor Q at r = (r ≡ fault at (r .reason)) × Q (r .reason)
 
--- for one of the reasons 1 to 7
+-- for any reason
 abbrev pub FaultAt : ℕ → Refusal → Type 0
-FaultAt at r = FaultFor (λ n. (0 < n) × (n < 8)) at r
+FaultAt at r = FaultFor (λ n. 0 < n) at r
 
 pub fault-place : (at : ℕ) (r : Refusal) → FaultAt at r → r .place ≡ at
 fault-place at r is = ap (λ (x : Refusal). x .place) (is .0)
@@ -77,14 +77,14 @@ broken-for sh bs at Q each =
 
 pub broken-at : (sh : Shape) (bs : List ℕ) (at : ℕ) (r : Refusal) → blockAt sh bs at ≡ Broken r → FaultAt at r
 broken-at sh bs at =
-    broken-for sh bs at (λ n. (0 < n) × (n < 8))
+    broken-for sh bs at (λ n. 0 < n)
     (record {
-      none = λ a. (omega arith, omega arith);
-      head = λ a b. (omega arith, omega arith);
-      short = λ a b. (omega arith, omega arith);
-      time = λ a b. (omega arith, omega arith);
-      empty = λ a b c. (omega arith, omega arith);
-      pad = λ a b c d. (omega arith, omega arith);
+      none = λ a. omega arith;
+      head = λ a b. omega arith;
+      short = λ a b. omega arith;
+      time = λ a b. omega arith;
+      empty = λ a b c. omega arith;
+      pad = λ a b c d. omega arith;
     })
 
 -- bytes left over are placed at the first of them, for reason 6
@@ -96,9 +96,8 @@ ending-faulty len k at r e = go (eqb at len) refl e
     go true t e = let z : _≡_ {A = ℕ} 0 1 = cc in absurd (omega arith)
     go false t e = (cc, eqb-false at len t)
 
--- a refusal that is a fault for one of these reasons
-pub fault-named : (at n : ℕ) (r : Refusal) → r ≡ fault at n → 0 < n → n < 8 → FaultAt at r
-fault-named at n r is some few = subst (FaultAt at) (sym is) (refl, (some, few))
+fault-for : (at n : ℕ) (r : Refusal) → r ≡ fault at n → 0 < n → FaultAt at r
+fault-for at n r is some = subst (FaultAt at) (sym is) (refl, some)
 
 -- how a walk ends, behind this many blocks and at this place: it stops there, or finds no block there
 pub record End (sh : Shape) (bs : List ℕ) (says : Checked) : Type 0 where
@@ -128,7 +127,7 @@ pub walk-end : (sh : Shape) (bs : List ℕ) → 4 ≤ length bs → End sh bs (w
 unfolding walk
 walk-end sh bs long = walk-ends sh bs (length bs + 1) 0 4 (walking-first sh bs long) (omega arith)
 
--- every refusal of a body is 15, for one of the reasons, and its place lies in the body or at its end
+-- every refusal of a body is 15, for a reason, and its place lies in the body or at its end
 pub faulty-is : (kind : ℕ) (rule : TimeRule) (bs : List ℕ) (r : Refusal) → checkBody kind rule bs ≡ Faulty r → FaultAt (r .place) r × (r .place ≤ length bs)
 unfolding checkBody
 faulty-is kind rule bs r e = go (openBody kind rule bs) refl e
@@ -141,8 +140,8 @@ faulty-is kind rule bs r e = go (openBody kind rule bs) refl e
     go (Shaped sh) q h =
         let x = walk-end sh bs (open-long kind rule bs sh q) in
         at (x .place) (x .there .2)
-        (⊎-elim (λ s. fault-named (x .place) 6 r (ending-faulty (length bs) (x .blocks) (x .place) r (sym (s .1) ∙ h) .0) (omega arith) (omega arith)) (λ s. let same : s .0 ≡ r = cc (sym (s .1) ∙ h) in subst (FaultAt (x .place)) same (s .2)) (x .how))
-    go Wrong q h = at 0 (omega arith) (fault-named 0 1 r (cc) (omega arith) (omega arith))
+        (⊎-elim (λ s. fault-for (x .place) 6 r (ending-faulty (length bs) (x .blocks) (x .place) r (sym (s .1) ∙ h) .0) (omega arith)) (λ s. let same : s .0 ≡ r = cc (sym (s .1) ∙ h) in subst (FaultAt (x .place)) same (s .2)) (x .how))
+    go Wrong q h = at 0 (omega arith) (fault-for 0 1 r (cc) (omega arith))
 
 -- the place alone
 pub faulty-number : (kind : ℕ) (rule : TimeRule) (bs : List ℕ) (r : Refusal) → checkBody kind rule bs ≡ Faulty r → (r .number ≡ 15) × (r .room ≡ 0)

@@ -35,7 +35,7 @@ module _ (kind : ℕ) (rule : TimeRule) (bs : List ℕ) (w : Walked) (is : w ≡
       go (Counted n) e = e ∙ ap Counted (sym (ap (λ (x : Walked). x .number) (is ∙ ap walked e)))
       go (Faulty f) e =
           let i : w .reason ≡ f .reason = ap (λ (x : Walked). x .reason) (is ∙ ap walked e) in
-          absurd (omega (arith, faulty-is kind rule bs f e .0 .1 .0))
+          absurd (omega (arith, faulty-is kind rule bs f e .0 .1))
 
   -- a reason: the other number is the place of the fault
   pub walked-faulty : (w .reason ≡ 0 → ⊥) → checkBody kind rule bs ≡ Faulty (fault (w .number) (w .reason))

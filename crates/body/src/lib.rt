@@ -54,8 +54,8 @@ pub enum Block {
     Broken(Refusal),
 }
 
-// What the walk over a body comes to, in two numbers: 0 and how many messages there are, or the reason of the first fault and its
-// place.
+// What a block, or the walk over all of them, comes to, in two numbers: 0 and the place behind the block, or how many messages there
+// are; or the reason of the first fault and its place.
 pub struct Walked {
     pub reason: u8,
     pub number: usize,

@@ -4,7 +4,8 @@ ghost use Prim.Native.Nat.{_+_, _^_, _≤_, _<_};
 ghost use lib.ListN.{length};
 ghost use mathlib.Core.Bool.{true};
 ghost use Rattle.terms.specs.Refusals.{fault};
-ghost use Rattle.body.specs.inner.Walks.{past, walked};
+ghost use Rattle.body.specs.declared.Block.the-variants.{Broken};
+ghost use Rattle.body.specs.inner.Walks.{stepped, walked};
 ghost use Rattle.terms.specs.inner.Masks.{maskOf, limitOf};
 ghost use Rattle.body.specs.Walk.{opens, stampLength, lengthBy, headAt, blockEnd, judge, blockAt, stopAt, walk};
 ghost use Rattle.body.specs.Answers.{checkBody};
@@ -76,42 +77,51 @@ pub fn block_end(m: Message) -> usize
     m.start + m.length + m.length % 2
 }
 
-// The place behind the block at `at`, by what its head says; where it is at fault, the reason.
-fn judge_block(body: &[u8], rule: TimeRule, mask: u64, limit: u64, at: usize, m: Message) -> usize
+// A fault at `at`, for this reason.
+fn broken(at: usize, reason: u8) -> Walked
+    ensures { λ r. ⌜ r ≡ stepped (Broken (fault at reason)) ⌝ }
+{
+    Walked { reason, number: at }
+}
+
+// The place behind the block at `at`, by what its head says, or its fault.
+fn judge_block(body: &[u8], rule: TimeRule, mask: u64, limit: u64, at: usize, m: Message) -> Walked
     requires { ⌜ (mask ≡ maskOf rule) × (limit ≡ limitOf rule) ⌝ }
     requires { ⌜ (at ≤ m .start) × (m .start ≤ length (now body)) × (m .length < 2 ^ 16) ⌝ }
-    ensures { λ r. ⌜ r ≡ past (judge rule (now (body .entry)) at m) ⌝ }
+    ensures { λ r. ⌜ r ≡ stepped (judge rule (now (body .entry)) at m) ⌝ }
 {
     let pad = m.start + m.length;
     let next = block_end(m);
     if body.len() < next {
-        return 2;
+        return broken(at, 2);
     }
     if limit <= m.time & mask {
-        return 3;
+        return broken(at, 3);
     }
     if m.length == 0 {
-        return 4;
+        return broken(at, 4);
     }
     if !all_zero(&body[pad..next]) {
-        return 5;
+        return broken(at, 5);
     }
-    next
+    Walked {
+        reason: 0,
+        number: next,
+    }
 }
 
-// The place behind the block at `at`; where it is at fault, the reason, which is below it. A plain number: an enum would go through
-// memory.
-fn next_block(body: &[u8], at: usize, shape: Shape, mask: u64, limit: u64) -> usize
+// The place behind the block at `at`, or its fault. Two plain numbers: an enum would go through memory.
+fn next_block(body: &[u8], at: usize, shape: Shape, mask: u64, limit: u64) -> Walked
     requires { ⌜ (mask ≡ maskOf (shape .rule)) × (limit ≡ limitOf (shape .rule)) ⌝ }
     requires { ⌜ at ≤ length (now body) ⌝ }
-    ensures { λ r. ⌜ r ≡ past (blockAt shape (now (body .entry)) at) ⌝ }
+    ensures { λ r. ⌜ r ≡ stepped (blockAt shape (now (body .entry)) at) ⌝ }
 {
     let form = shape.form;
     if body.len() < at + stamp_length(form) + 4 {
         if body.len() <= at {
-            return 7;
+            return broken(at, 7);
         }
-        return 2;
+        return broken(at, 2);
     }
     let m = head_at(body, at, form);
     let rule = shape.rule;
@@ -139,14 +149,11 @@ fn count_blocks(body: &[u8], shape: Shape) -> Walked
     let mut k: usize = 0;
     let mut at: usize = 4;
     while !stop_at(shape, body.len(), k, at) {
-        let next = next_block(body, at, shape, mask, limit);
-        if next < 8 {
-            return Walked {
-                reason: next as u8,
-                number: at,
-            };
+        let block = next_block(body, at, shape, mask, limit);
+        if block.reason != 0 {
+            return block;
         }
-        at = next;
+        at = block.number;
         k += 1;
     }
     if at == body.len() {
@@ -155,10 +162,7 @@ fn count_blocks(body: &[u8], shape: Shape) -> Walked
             number: k,
         }
     } else {
-        Walked {
-            reason: 6,
-            number: at,
-        }
+        broken(at, 6)
     }
 }
 
@@ -188,9 +192,6 @@ fn walk_whole(body: &[u8], kind: u8, rule: TimeRule) -> Walked
             number: 0,
         },
         Opened::Shaped(shape) => count_blocks(body, shape),
-        Opened::Wrong => Walked {
-            reason: 1,
-            number: 0,
-        },
+        Opened::Wrong => broken(0, 1),
     }
 }

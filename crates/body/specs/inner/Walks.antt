@@ -17,12 +17,12 @@ use Rattle.body.specs.declared.Walked.{Walked}
 abbrev pub formIn : ℕ → List ℕ → Form
 formIn kind bs = pick (eqb kind 0x30 || leb (2 ^ 31) (field bs 0 4)) Stamped Plain
 
--- the place behind a block that is found, else the reason, which is below it (past-found, past-broken)
-abbrev pub past : Block → ℕ
-past (Found m next) = next
-past (Broken f) = f .reason
+-- a block as two numbers: 0 and the place behind it, or the reason and the place of its fault (step-on, step-fault)
+abbrev pub stepped : Block → Walked
+stepped (Found m next) = record { reason = 0; number = next }
+stepped (Broken f) = record { reason = f .reason; number = f .place }
 
--- a body's check as two numbers: 0 and how many messages, or the reason and the place of the fault (walked-counted, walked-faulty)
+-- a body's check likewise: 0 and how many messages, or the reason and the place of the fault (walked-counted, walked-faulty)
 abbrev pub walked : Checked → Walked
 walked (Counted n) = record { reason = 0; number = n }
 walked (Faulty f) = record { reason = f .reason; number = f .place }

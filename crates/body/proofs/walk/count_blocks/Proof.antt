@@ -26,20 +26,22 @@ next-block-requires c κs =
 
 returns : tie.Need-returns Inv-loop μ-loop
 returns c =
-    let at-block = c .before in
+    let at-block = c .before .before in
     let at-stop = at-block .before .before in
-    ap walked (step-fault _ _ _ _ _ (at-stop .before .loop .inv) (sym (at-stop .stop-at .ensures) ∙ not-true _ (at-block .before .if1 .taken)) (at-block .next-block .ensures) (c .if2 .taken))
+    step-fault _ _ _ _ _ (at-stop .before .loop .inv) (sym (at-stop .stop-at .ensures) ∙ not-true _ (at-block .before .if1 .taken)) (at-block .next-block .ensures) (c .if2 .taken)
 
 loop-less : tie.Need-loop-less Inv-loop μ-loop
 loop-less c =
-    let at-stop = c .before .before .before in
-    let s = step-on _ _ _ _ _ (at-stop .before .loop .inv) (sym (at-stop .stop-at .ensures) ∙ not-true _ (c .before .before .if1 .taken)) (c .before .next-block .ensures) (c .if2 .left) in
+    let at-block = c .before .before in
+    let at-stop = at-block .before .before in
+    let s = step-on _ _ _ _ _ (at-stop .before .loop .inv) (sym (at-stop .stop-at .ensures) ∙ not-true _ (at-block .before .if1 .taken)) (at-block .next-block .ensures) (c .if2 .left) in
     omega (arith, s .1)
 
 loop-again : tie.Need-loop-again Inv-loop μ-loop
 loop-again c =
-    let at-stop = c .before .before .before in
-    step-on _ _ _ _ _ (at-stop .before .loop .inv) (sym (at-stop .stop-at .ensures) ∙ not-true _ (c .before .before .if1 .taken)) (c .before .next-block .ensures) (c .if2 .left) .0
+    let at-block = c .before .before in
+    let at-stop = at-block .before .before in
+    step-on _ _ _ _ _ (at-stop .before .loop .inv) (sym (at-stop .stop-at .ensures) ∙ not-true _ (at-block .before .if1 .taken)) (at-block .next-block .ensures) (c .if2 .left) .0
 
 returns-2 : tie.Need-returns-2 Inv-loop μ-loop
 returns-2 c =
@@ -48,8 +50,10 @@ returns-2 c =
 
 returns-3 : tie.Need-returns-3 Inv-loop μ-loop
 returns-3 c =
-    let at-stop = c .before .before in
-    sym (ap walked (counting-stop _ _ _ _ (at-stop .before .loop .inv) (sym (at-stop .stop-at .ensures) ∙ not-false _ (c .before .if1 .left)) ∙ ending-over _ _ _ (c .if3 .left)))
+    let at-else3 = c .before in
+    let at-stop = at-else3 .before .before in
+    c .broken .ensures
+    ∙ sym (ap walked (counting-stop _ _ _ _ (at-stop .before .loop .inv) (sym (at-stop .stop-at .ensures) ∙ not-false _ (at-else3 .before .if1 .left)) ∙ ending-over _ _ _ (at-else3 .if3 .left)))
 
 pub count-blocks-spec : {M : Type 1} → statement M
 count-blocks-spec =
@@ -62,10 +66,10 @@ count-blocks-spec =
     loop-holds
     (λ c κs. search needs)
     next-block-requires
-    (λ c. omega (arith, c .if2 .taken))
     returns
     (λ c. search needs)
     loop-less
     loop-again
+    (λ c κs. search needs)
     returns-2
     returns-3)

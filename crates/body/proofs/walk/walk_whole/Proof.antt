@@ -21,7 +21,7 @@ returns-2 c =
 
 returns-3 : tie.Need-returns-3
 unfolding checkBody
-returns-3 c = simp (sym (c .before .before .open-body .ensures) ∙ c .enum-told2 .given .1)
+returns-3 c = c .broken .ensures ∙ simp (sym (c .before .before .before .open-body .ensures) ∙ c .before .enum-told2 .given .1)
 
 pub walk-whole-spec : {M : Type 1} → statement M
 walk-whole-spec =
@@ -32,6 +32,7 @@ walk-whole-spec =
     (λ c. search needs)
     count-blocks-requires
     (λ c. search needs)
+    (λ c κs. search needs)
     returns
     returns-2
     returns-3)
