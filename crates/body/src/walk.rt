@@ -92,11 +92,15 @@ fn judge_block(body: &[u8], rule: TimeRule, mask: u64, limit: u64, at: usize, m:
 {
     let pad = m.start + m.length;
     let next = block_end(m);
-    if body.len() < next {
-        return broken(at, 2);
-    }
+    let cut = body.len() < next;
     if limit <= m.time & mask {
+        if cut {
+            return broken(at, 2);
+        }
         return broken(at, 3);
+    }
+    if cut {
+        return broken(at, 2);
     }
     if m.length == 0 {
         return broken(at, 4);
