@@ -84,7 +84,8 @@ fn broken(at: usize, reason: u8) -> Walked
     Walked { reason, number: at }
 }
 
-// The place behind the block at `at`, by what its head says, or its fault.
+// The place behind the block at `at`, by what its head says, or its fault. The time is looked at first, and told of after the cut:
+// the other way the compiler keeps what the cut says beside the walk (docs/DECISIONS.md, "Speed").
 fn judge_block(body: &[u8], rule: TimeRule, mask: u64, limit: u64, at: usize, m: Message) -> Walked
     requires { ⌜ (mask ≡ maskOf rule) × (limit ≡ limitOf rule) ⌝ }
     requires { ⌜ (at ≤ m .start) × (m .start ≤ length (now body)) × (m .length < 2 ^ 16) ⌝ }

@@ -13,12 +13,13 @@ pub enum TimeRule {
     Extended,
 }
 
-// A refusal: document 01's number, the place, the room needed (16; otherwise 0), and the reason (15; otherwise 0).
+// A refusal: document 01's number, the reason (15; otherwise 0), the place, and the room needed (16; otherwise 0). The two small
+// numbers stand together, so that there is less to copy.
 pub struct Refusal {
     pub number: u8,
+    pub reason: u8,
     pub place: usize,
     pub room: usize,
-    pub reason: u8,
 }
 
 // The one place where a refusal's record is made.
