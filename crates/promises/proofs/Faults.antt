@@ -20,7 +20,7 @@ use Rattle.terms.specs.Refusals.{fault}
 use Rattle.body.specs.Answers.{checkOpened, checkBody, tab}
 use Rattle.body.specs.Blocks.{Entry, blockBytes, Fits, AllFit, blocksBytes, messageOn}
 use Rattle.body.specs.Layout.{OpenedType, Asked, exactly, toTheEnd, ChannelWord}
-use Rattle.promises.specs.Faults.{Each, Due, Begins, stamp, headSize, n, size, Breaks, headCut, bytesCut, time, empty, pad, ends, Lowest, AtFault, cut, word, block, over}
+use Rattle.promises.specs.Faults.{Each, Due, Begins, stampSize, headSize, nOf, wholeSize, Breaks, headCut, bytesCut, timeOut, lengthZero, padNotZero, Lowest, AtFault, noWord, wrongWord, block, over, missing}
 use Rattle.terms.specs.declared.TimeRule.{TimeRule}
 use Rattle.terms.specs.declared.Refusal.{Refusal}
 use Rattle.body.specs.declared.Form.{Form}
@@ -36,7 +36,8 @@ use Rattle.body.proofs.Walking.{found-stands, stands-found, found-next, Walking
 use Rattle.body.proofs.Reading.{length-tab}
 use Rattle.body.proofs.Whole.{entryOn, stands-there, on-before, Come, come-first, come-next, open-not-carried}
 use Rattle.body.proofs.Exactly.{check-shaped}
-use Rattle.body.proofs.Bounds.{EachReason, broken-for, ending-faulty}
+use Rattle.body.proofs.Bounds.{FaultFor, EachReason, broken-for, ending-faulty}
+use Rattle.body.proofs.Steps.{none-there}
 use Rattle.body.proofs.ChannelWords.{opens-exactly, countedBy, countBy, shapeOf, word-says, word-made}
 
 -- a block keeps the rules under a time rule, and a time is in form under it
@@ -58,24 +59,22 @@ each-fit form rule (e ∷ es) all = (all .0, each-fit form rule es (all .1))
 
 module _ (InForm : ℕ → Type 0) (form : Form) (rest : List ℕ) where
   -- none below a limit, where those below it are kept
-  none-below : (limit : ℕ) → (2 < limit → size form rest ≤ length rest) → (3 < limit → form ≡ Stamped → InForm (field rest 0 8))
-      → (4 < limit → n form rest ≢ 0) → (5 < limit → n form rest % 2 ≡ 1 → getD rest (headSize form + n form rest) 0 ≡ 0)
+  none-below : (limit : ℕ) → (2 < limit → wholeSize form rest ≤ length rest) → (3 < limit → form ≡ Stamped → InForm (field rest 0 8))
+      → (4 < limit → nOf form rest ≢ 0) → (5 < limit → nOf form rest % 2 ≡ 1 → getD rest (headSize form + nOf form rest) 0 ≡ 0)
       → (lower : ℕ) → lower < limit → ¬ Breaks InForm form rest lower
   none-below limit whole timed some padded lower less (headCut begun short) = omega (arith, whole less)
   none-below limit whole timed some padded lower less (bytesCut head short) = omega (arith, whole less)
-  none-below limit whole timed some padded lower less (time w is out) = out (timed less is)
-  none-below limit whole timed some padded lower less (empty w z) = some less z
-  none-below limit whole timed some padded lower less (pad w odd other) = other (padded less odd)
-  none-below limit whole timed some padded lower less (ends z) = omega (arith, whole (omega arith))
+  none-below limit whole timed some padded lower less (timeOut is there out) = out (timed less is)
+  none-below limit whole timed some padded lower less (lengthZero head z) = some less z
+  none-below limit whole timed some padded lower less (padNotZero odd there other) = other (padded less odd)
 
-  -- nor where nothing is left
-  none-left : length rest ≡ 0 → (lower : ℕ) → lower < 7 → ¬ Breaks InForm form rest lower
-  none-left z lower less (headCut begun short) = omega arith
-  none-left z lower less (bytesCut head short) = omega arith
-  none-left z lower less (time w is out) = omega arith
-  none-left z lower less (empty w e) = omega arith
-  none-left z lower less (pad w odd other) = omega arith
-  none-left z lower less (ends e) = omega arith
+  -- each is broken by bytes that are there
+  breaks-there : (reason : ℕ) → Breaks InForm form rest reason → 1 ≤ length rest
+  breaks-there reason (headCut begun short) = begun
+  breaks-there reason (bytesCut head short) = omega arith
+  breaks-there reason (timeOut is there out) = omega arith
+  breaks-there reason (lengthZero head z) = omega arith
+  breaks-there reason (padNotZero odd there other) = omega arith
 
   -- the lowest is one
   lowest-once : (a b : ℕ) → Lowest InForm form rest a → Lowest InForm form rest b → a ≡ b
@@ -86,19 +85,23 @@ module _ (InForm : ℕ → Type 0) (form : Form) (rest : List ℕ) where
       go (yes x) (no y) = absurd (second .1 a (omega arith) (first .0))
       go (no x) y = absurd (first .1 b (omega arith) (second .0))
 
+  -- what is wrong where a block is due: nothing is left, or a rule is broken
+  abbrev DueWrong : ℕ → Type 0
+  DueWrong reason = ((length rest ≡ 0) × (reason ≡ 7)) ⊎ Lowest InForm form rest reason
+
 -- ---- one place: what the walk finds there, and whether it goes on
 
-stamp-is : (form : Form) → stampLength form ≡ stamp form
+stamp-is : (form : Form) → stampLength form ≡ stampSize form
 unfolding stampLength
 stamp-is Stamped = refl
 stamp-is Plain = refl
 
 -- what a block's head says, by the bytes that are left from its first byte on
-n-is : (form : Form) (bs : List ℕ) (at : ℕ) → headAt form bs at .length ≡ n form (drop at bs)
+n-is : (form : Form) (bs : List ℕ) (at : ℕ) → headAt form bs at .length ≡ nOf form (drop at bs)
 unfolding headAt lengthBy
-n-is form bs at = rw (stamp-is form) (ap (λ (l : List ℕ). num (take 4 l) % 2 ^ 16) (sym (drop-drop (stamp form) at bs)))
+n-is form bs at = rw (stamp-is form) (ap (λ (l : List ℕ). num (take 4 l) % 2 ^ 16) (sym (drop-drop (stampSize form) at bs)))
 
-size-is : (form : Form) (bs : List ℕ) (at : ℕ) → blockEnd (headAt form bs at) ≡ at + size form (drop at bs)
+size-is : (form : Form) (bs : List ℕ) (at : ℕ) → blockEnd (headAt form bs at) ≡ at + wholeSize form (drop at bs)
 unfolding headAt
 size-is form bs at = rw (n-is form bs at) (omega (arith, stamp-is form))
 
@@ -131,28 +134,28 @@ module _ (form : Form) (bs : List ℕ) (at : ℕ) where
   padZeros = zeros (part bs (headAt form bs at .start + headAt form bs at .length) (headAt form bs at .length % 2))
 
   abbrev padByte : ℕ
-  padByte = getD (drop at bs) (headSize form + n form (drop at bs)) 0
+  padByte = getD (drop at bs) (headSize form + nOf form (drop at bs)) 0
 
   -- where n is odd it is the byte behind the n bytes
-  pad-odd : n form (drop at bs) % 2 ≡ 1 → padZeros ≡ eqb padByte 0
+  pad-odd : nOf form (drop at bs) % 2 ≡ 1 → padZeros ≡ eqb padByte 0
   unfolding headAt
   pad-odd odd =
-      let place = at + stamp form + 4 + n form (drop at bs) in
-      let there : at + (headSize form + n form (drop at bs)) ≡ place = omega arith in
-      rw (n-is form bs at, stamp-is form, odd, zeros-one (drop place bs), getD-drop place bs 0 0, add-zero, getD-drop at bs (headSize form + n form (drop at bs)) 0, there)
+      let place = at + stampSize form + 4 + nOf form (drop at bs) in
+      let there : at + (headSize form + nOf form (drop at bs)) ≡ place = omega arith in
+      rw (n-is form bs at, stamp-is form, odd, zeros-one (drop place bs), getD-drop place bs 0 0, add-zero, getD-drop at bs (headSize form + nOf form (drop at bs)) 0, there)
 
-  pad-even : n form (drop at bs) % 2 ≡ 0 → padZeros ≡ true
+  pad-even : nOf form (drop at bs) % 2 ≡ 0 → padZeros ≡ true
   unfolding headAt zeros
   pad-even even = rw (n-is form bs at, even)
 
-  pad-right : padZeros ≡ true → n form (drop at bs) % 2 ≡ 1 → padByte ≡ 0
+  pad-right : padZeros ≡ true → nOf form (drop at bs) % 2 ≡ 1 → padByte ≡ 0
   pad-right t odd = eqb-true padByte 0 (sym (pad-odd odd) ∙ t)
 
-  pad-wrong : padZeros ≡ false → (n form (drop at bs) % 2 ≡ 1) × (padByte ≢ 0)
-  pad-wrong t = go (decLe 1 (n form (drop at bs) % 2))
+  pad-wrong : padZeros ≡ false → (nOf form (drop at bs) % 2 ≡ 1) × (padByte ≢ 0)
+  pad-wrong t = go (decLe 1 (nOf form (drop at bs) % 2))
     where
-      go : Dec (1 ≤ n form (drop at bs) % 2) → (n form (drop at bs) % 2 ≡ 1) × (padByte ≢ 0)
-      go (yes h) = let odd : n form (drop at bs) % 2 ≡ 1 = omega arith in (odd, eqb-false padByte 0 (sym (pad-odd odd) ∙ t))
+      go : Dec (1 ≤ nOf form (drop at bs) % 2) → (nOf form (drop at bs) % 2 ≡ 1) × (padByte ≢ 0)
+      go (yes h) = let odd : nOf form (drop at bs) % 2 ≡ 1 = omega arith in (odd, eqb-false padByte 0 (sym (pad-odd odd) ∙ t))
       go (no h) = absurd (false≢true (sym t ∙ pad-even (omega arith)))
 
 module _ (sh : Shape) (bs : List ℕ) (at : ℕ) (within : at ≤ length bs) where
@@ -165,42 +168,38 @@ module _ (sh : Shape) (bs : List ℕ) (at : ℕ) (within : at ≤ length bs) whe
   left : length bs ≡ at + length rest
   left = omega (arith, within, length-drop at bs)
 
-  long : blockEnd (headAt (sh .form) bs at) ≤ length bs → size (sh .form) rest ≤ length rest
+  long : blockEnd (headAt (sh .form) bs at) ≤ length bs → wholeSize (sh .form) rest ≤ length rest
   long h = omega (arith, left, size-is (sh .form) bs at)
 
   -- the first test that a block fails is for the lowest rule that it breaks
-  each-lowest : EachReason sh bs at (headAt (sh .form) bs at) (Lowest InTime (sh .form) rest)
-  each-lowest =
+  each-wrong : EachReason sh bs at (headAt (sh .form) bs at) (DueWrong InTime (sh .form) rest)
+  each-wrong =
       let form = sh .form in
       let rule = sh .rule in
       let below = none-below InTime form rest in
+      let cut = below 2 (λ h. absurd (omega arith)) (λ h. absurd (omega arith)) (λ h. absurd (omega arith)) (λ h. absurd (omega arith)) in
       record {
-        none = λ h. (ends (omega (arith, left)), none-left InTime form rest (omega (arith, left)));
-        head =
-            λ some short. (
-              headCut (omega (arith, left)) (omega (arith, left, stamp-is form)),
-              below 2 (λ h. absurd (omega arith)) (λ h. absurd (omega arith)) (λ h. absurd (omega arith)) (λ h. absurd (omega arith)),
-            );
-        short =
-            λ head short. (
-              bytesCut (omega (arith, left, stamp-is form)) (omega (arith, left, size-is form bs at)),
-              below 2 (λ h. absurd (omega arith)) (λ h. absurd (omega arith)) (λ h. absurd (omega arith)) (λ h. absurd (omega arith)),
-            );
+        none = λ h. inl (omega (arith, left), refl);
+        head = λ some short. inr (headCut (omega (arith, left)) (omega (arith, left, stamp-is form)), cut);
+        short = λ head short. inr (bytesCut (omega (arith, left, stamp-is form)) (omega (arith, left, size-is form bs at)), cut);
         time =
             λ fits out.
-            let wrong = timed-wrong rule bs at form out in (
-              time (long fits) (wrong .0) (wrong .1),
+            let wrong = timed-wrong rule bs at form out in
+            inr (
+              timeOut (wrong .0) (omega (arith, long fits, ap stampSize (wrong .0))) (wrong .1),
               below 3 (λ h. long fits) (λ h. absurd (omega arith)) (λ h. absurd (omega arith)) (λ h. absurd (omega arith)),
             );
         empty =
-            λ fits in-form z. (
-              empty (long fits) (sym (n-is form bs at) ∙ z),
+            λ fits in-form z.
+            inr (
+              lengthZero (omega (arith, long fits)) (sym (n-is form bs at) ∙ z),
               below 4 (λ h. long fits) (λ h. timed-right rule bs at form in-form) (λ h. absurd (omega arith)) (λ h. absurd (omega arith)),
             );
         pad =
             λ fits in-form some other.
-            let wrong = pad-wrong form bs at other in (
-              pad (long fits) (wrong .0) (wrong .1),
+            let wrong = pad-wrong form bs at other in
+            inr (
+              padNotZero (wrong .0) (omega (arith, long fits, wrong .0)) (wrong .1),
               below 5 (λ h. long fits) (λ h. timed-right rule bs at form in-form) (λ h z. some (n-is form bs at ∙ z)) (λ h. absurd (omega arith)),
             );
       }
@@ -215,6 +214,11 @@ module _ (sh : Shape) (bs : List ℕ) (at : ℕ) (within : at ≤ length bs) whe
       none-below InTime form rest (suc reason) (λ h. long fits) (λ h. timed-right (sh .rule) bs at form (rw (← is) (s .time-ok)))
       (λ h z. omega (arith, s .some, ap (λ (x : Message). x .length) is, n-is form bs at, z)) (λ h. pad-right form bs at (rw (← is) (s .pad)))
       reason (omega arith)
+
+-- nothing is left
+none-left : (l : List ℕ) → length l ≡ 0 → l ≡ []
+none-left [] e = refl
+none-left (x ∷ l) e = absurd (omega (arith, e))
 
 -- the walk goes on exactly where a block is due
 module _ (form : Form) (rule : TimeRule) (len k at : ℕ) (rest : List ℕ) (l : len ≡ at + length rest) where
@@ -289,10 +293,23 @@ module _ (kind : ℕ) (rule : TimeRule) (bs : List ℕ) (form : Form) (asked : A
         rw (p, q) fault-there
 
     broken-fault : stopAt sh (length bs) k at ≡ false → blockAt sh bs at ≡ Broken r → FaultOf kind rule bs r
-    broken-fault s b =
-        let due = going-due form rule (length bs) k at (drop at bs) behind asked s in
-        let f = broken-for sh bs at (Lowest (TimeBy rule) form (drop at bs)) (each-lowest sh bs at (w .2)) r b in
-        there (r .reason) (f .0) (block (come-begins k at (w .2) come .0) (rw (length-tab k (entryOn sh bs)) due) (f .1))
+    broken-fault s b = go (f .1)
+      where
+        f : FaultFor (DueWrong (TimeBy rule) form (drop at bs)) at r
+        f = broken-for sh bs at (DueWrong (TimeBy rule) form (drop at bs)) (each-wrong sh bs at (w .2)) r b
+
+        begins : Begins kind (RightBy rule) bs form asked before (drop at bs)
+        begins = come-begins k at (w .2) come .0
+
+        due : Due asked (length before) (drop at bs)
+        due = rw (length-tab k (entryOn sh bs)) (going-due form rule (length bs) k at (drop at bs) behind asked s)
+
+        go : DueWrong (TimeBy rule) form (drop at bs) (r .reason) → FaultOf kind rule bs r
+        go (inl (none, seven)) =
+            let ended : drop at bs ≡ [] = none-left (drop at bs) none in
+            there 7 (f .0 ∙ ap (fault at) seven)
+            (missing (subst (Begins kind (RightBy rule) bs form asked before) ended begins) (subst (Due asked (length before)) ended due))
+        go (inr lowest) = there (r .reason) (f .0) (block begins due lowest)
 
     over-fault : stopAt sh (length bs) k at ≡ true → r ≡ fault at 6 → at ≢ length bs → FaultOf kind rule bs r
     over-fault s is short =
@@ -337,9 +354,9 @@ word-fault kind rule bs e = go (decLe 4 (length bs))
   where
     go : Dec (4 ≤ length bs) → AtFault kind (RightBy rule) (TimeBy rule) bs 0 1
     go (yes h) =
-        word (wrong-opened kind rule bs e) h λ form asked w.
+        wrongWord (wrong-opened kind rule bs e) h λ form asked w.
         let z : _≡_ {A = ℕ} 0 1 = cc (word-made kind rule bs form asked h w, e) in omega arith
-    go (no h) = cut (wrong-opened kind rule bs e) (omega arith)
+    go (no h) = noWord (wrong-opened kind rule bs e) (omega arith)
 
 -- a body that is refused is at fault at the place given, for the reason given
 pub fault-at : (kind : ℕ) (rule : TimeRule) (bs : List ℕ) (r : Refusal) → Bytes bs → checkBody kind rule bs ≡ Faulty r → FaultOf kind rule bs r
@@ -411,21 +428,29 @@ module _ (kind : ℕ) (rule : TimeRule) (bs : List ℕ) (form : Form) (asked : A
       let split : bs ≡ take 4 bs ++ blocks ++ rest = b .is ∙ sym (append-assoc (take 4 bs) blocks rest) in
       (omega (arith, l, ap length split, length-append (take 4 bs ++ blocks) rest), ap (drop place) split ∙ drop-at (take 4 bs ++ blocks) rest place l)
 
-  begins-block : (reason : ℕ) → Due asked (length es) rest → Lowest (TimeBy rule) form rest reason → RefusedAt kind rule bs place reason
-  begins-block reason due lowest = check-shaped kind rule bs its-shape opened ∙ go (blockAt its-shape bs place) refl
-    where
-      on : stopAt its-shape (length bs) (length es) place ≡ false
-      on = due-going form rule (length bs) (length es) place rest (begins-left .0) asked due
+  begins-broken : {reason : ℕ} → Due asked (length es) rest → blockAt its-shape bs place ≡ Broken (fault place reason) → RefusedAt kind rule bs place reason
+  begins-broken due broken =
+      let on = due-going form rule (length bs) (length es) place rest (begins-left .0) asked due in
+      check-shaped kind rule bs its-shape opened ∙ counting-broken its-shape bs (length es) place begins-come _ on broken
 
+  begins-block : (reason : ℕ) → Due asked (length es) rest → Lowest (TimeBy rule) form rest reason → RefusedAt kind rule bs place reason
+  begins-block reason due lowest = begins-broken due (go (blockAt its-shape bs place) refl)
+    where
       in-body : place ≤ length bs
       in-body = omega (arith, begins-left .0)
 
-      go : (x : Block) → blockAt its-shape bs place ≡ x → walk its-shape bs ≡ Faulty (fault place reason)
+      same : (r : ℕ) → DueWrong (TimeBy rule) form rest r → r ≡ reason
+      same r (inl (none, seven)) = absurd (omega (arith, breaks-there (TimeBy rule) form rest reason (lowest .0)))
+      same r (inr other) = lowest-once (TimeBy rule) form rest r reason other lowest
+
+      go : (x : Block) → blockAt its-shape bs place ≡ x → blockAt its-shape bs place ≡ Broken (fault place reason)
       go (Broken r) e =
-          let f = rw (begins-left .1) at (broken-for its-shape bs place (Lowest (TimeBy rule) form (drop place bs)) (each-lowest its-shape bs place in-body) r e) in
-          counting-broken its-shape bs (length es) place begins-come r on e
-          ∙ ap Faulty (f .0 ∙ ap (fault place) (lowest-once (TimeBy rule) form rest (r .reason) reason (f .1) lowest))
+          let f = rw (begins-left .1) at (broken-for its-shape bs place (DueWrong (TimeBy rule) form (drop place bs)) (each-wrong its-shape bs place in-body) r e) in
+          e ∙ ap Broken (f .0 ∙ ap (fault place) (same (r .reason) (f .1)))
       go (Found m next) e = absurd (rw (begins-left .1) at (found-none its-shape bs place in-body m next e reason) (lowest .0))
+
+  begins-missing : Due asked (length es) rest → length rest ≡ 0 → RefusedAt kind rule bs place 7
+  begins-missing due none = begins-broken due (sym (none-there its-shape bs place (omega (arith, begins-left .0))))
 
   begins-over : countedBy asked ≡ true → length es ≡ countBy asked → 1 ≤ length rest → RefusedAt kind rule bs place 6
   unfolding stopAt
@@ -455,12 +480,14 @@ wrong-refused kind rule bs wrong = simp wrong
 
 -- a body that is at fault is refused there, for that reason
 pub at-fault : (kind : ℕ) (rule : TimeRule) (bs : List ℕ) (a reason : ℕ) → AtFault kind (RightBy rule) (TimeBy rule) bs a reason → RefusedAt kind rule bs a reason
-at-fault kind rule bs a reason (cut o short) = wrong-refused kind rule bs (cut-wrong kind rule bs o short)
-at-fault kind rule bs a reason (word o long none) = wrong-refused kind rule bs (word-wrong kind rule bs o none)
+at-fault kind rule bs a reason (noWord o short) = wrong-refused kind rule bs (cut-wrong kind rule bs o short)
+at-fault kind rule bs a reason (wrongWord o long none) = wrong-refused kind rule bs (word-wrong kind rule bs o none)
 at-fault kind rule bs a reason (block {form} {asked} {es} {rest} b due lowest) =
     begins-block kind rule bs form asked es rest b (due-within asked (length es) rest due) reason due lowest
 at-fault kind rule bs a reason (over {form} {count} {es} {rest} b n more) =
     begins-over kind rule bs form (exactly count) es rest b (λ c. omega arith) refl n more
+at-fault kind rule bs a reason (missing {form} {asked} {es} b due) =
+    begins-missing kind rule bs form asked es [] b (due-within asked (length es) [] due) due refl
 
 -- both ways
 pub fault-exactly : (kind : ℕ) (rule : TimeRule) (bs : List ℕ) (a reason : ℕ) → Bytes bs
@@ -489,19 +516,19 @@ breaks-other : (InForm Other : ℕ → Type 0) → ((t : ℕ) → Other t → In
     → Breaks InForm form rest reason → Breaks Other form rest reason
 breaks-other InForm Other from form rest reason (headCut begun short) = headCut begun short
 breaks-other InForm Other from form rest reason (bytesCut head short) = bytesCut head short
-breaks-other InForm Other from form rest reason (time whole is out) = time whole is (λ t. out (from (field rest 0 8) t))
-breaks-other InForm Other from form rest reason (empty whole z) = empty whole z
-breaks-other InForm Other from form rest reason (pad whole odd other) = pad whole odd other
-breaks-other InForm Other from form rest reason (ends z) = ends z
+breaks-other InForm Other from form rest reason (timeOut is there out) = timeOut is there (λ t. out (from (field rest 0 8) t))
+breaks-other InForm Other from form rest reason (lengthZero head z) = lengthZero head z
+breaks-other InForm Other from form rest reason (padNotZero odd there other) = padNotZero odd there other
 
 pub fault-other : (Right Other : Form → Entry → Type 0) → ((form : Form) (e : Entry) → Right form e → Other form e)
     → (InForm Timed : ℕ → Type 0) → ((t : ℕ) → InForm t ↔ Timed t)
     → (kind : ℕ) (bs : List ℕ) (a reason : ℕ) → AtFault kind Right InForm bs a reason → AtFault kind Other Timed bs a reason
-fault-other Right Other to InForm Timed same kind bs a reason (cut o short) = cut o short
-fault-other Right Other to InForm Timed same kind bs a reason (word o long none) = word o long none
+fault-other Right Other to InForm Timed same kind bs a reason (noWord o short) = noWord o short
+fault-other Right Other to InForm Timed same kind bs a reason (wrongWord o long none) = wrongWord o long none
 fault-other Right Other to InForm Timed same kind bs a reason (block {form} {asked} {es} {rest} b due lowest) =
     block (begins-other Right Other to b) due (
       breaks-other InForm Timed (λ t. same t .1) form rest reason (lowest .0),
       λ lower less broken. lowest .1 lower less (breaks-other Timed InForm (λ t. same t .0) form rest lower broken),
     )
 fault-other Right Other to InForm Timed same kind bs a reason (over b n more) = over (begins-other Right Other to b) n more
+fault-other Right Other to InForm Timed same kind bs a reason (missing b due) = missing (begins-other Right Other to b) due

@@ -33,50 +33,52 @@ pub record Begins (kind : ℕ) (Right : Form → Entry → Type 0) (bs : List �
 -- ---- a block that is due, where `rest` is left of the body
 
 -- its time stamp is of 8 bytes, or there is none
-abbrev pub stamp : Form → ℕ
-stamp Stamped = 8
-stamp Plain = 0
+abbrev pub stampSize : Form → ℕ
+stampSize Stamped = 8
+stampSize Plain = 0
 
 -- its head: the time stamp and an ID word of 4 bytes
 abbrev pub headSize : Form → ℕ
-headSize form = stamp form + 4
+headSize form = stampSize form + 4
 
 -- n is bits 15-0 of the ID word
-abbrev pub n : Form → List ℕ → ℕ
-n form rest = field rest (stamp form) 4 % 2 ^ 16
+abbrev pub nOf : Form → List ℕ → ℕ
+nOf form rest = field rest (stampSize form) 4 % 2 ^ 16
 
 -- the whole block: its head, the n bytes, and one pad byte if n is odd
-abbrev pub size : Form → List ℕ → ℕ
-size form rest = headSize form + n form rest + n form rest % 2
+abbrev pub wholeSize : Form → List ℕ → ℕ
+wholeSize form rest = headSize form + nOf form rest + nOf form rest % 2
 
--- the rule that it breaks, by its reason. InForm t: time t is in form
+-- the rules that it breaks, by their reasons. InForm t: time t is in form
 pub data Breaks (InForm : ℕ → Type 0) (form : Form) (rest : List ℕ) : ℕ → Type 0 where
   -- 2 block cut short: it begins, and its head is not whole; or that is, and its n bytes and their pad are not
   headCut : 1 ≤ length rest → length rest < headSize form → Breaks InForm form rest 2
-  bytesCut : headSize form ≤ length rest → length rest < size form rest → Breaks InForm form rest 2
-  -- 3 time: it is whole, and its time is out of form
-  time : size form rest ≤ length rest → form ≡ Stamped → ¬ InForm (field rest 0 8) → Breaks InForm form rest 3
-  -- 4 length zero: it is whole, and n is 0
-  empty : size form rest ≤ length rest → n form rest ≡ 0 → Breaks InForm form rest 4
-  -- 5 pad not zero: it is whole, and the pad byte behind its n bytes is not 0
-  pad : size form rest ≤ length rest → n form rest % 2 ≡ 1 → getD rest (headSize form + n form rest) 0 ≢ 0 → Breaks InForm form rest 5
-  -- 7 body ends where a block must begin
-  ends : length rest ≡ 0 → Breaks InForm form rest 7
+  bytesCut : headSize form ≤ length rest → length rest < wholeSize form rest → Breaks InForm form rest 2
+  -- 3 time: its time stamp is there, and the time is out of form
+  timeOut : form ≡ Stamped → 8 ≤ length rest → ¬ InForm (field rest 0 8) → Breaks InForm form rest 3
+  -- 4 length zero: its head is there, and n is 0
+  lengthZero : headSize form ≤ length rest → nOf form rest ≡ 0 → Breaks InForm form rest 4
+  -- 5 pad not zero: n is odd, the byte behind its n bytes is there, and it is not 0
+  padNotZero : nOf form rest % 2 ≡ 1 → headSize form + nOf form rest < length rest → getD rest (headSize form + nOf form rest) 0 ≢ 0
+      → Breaks InForm form rest 5
 
--- "For a block that breaks several, the lowest number .. wins"
+-- "For a block that breaks several, the lowest number from 2 to 5 wins"
 abbrev pub Lowest : (ℕ → Type 0) → Form → List ℕ → ℕ → Type 0
 Lowest InForm form rest reason = Breaks InForm form rest reason × ((lower : ℕ) → lower < reason → ¬ Breaks InForm form rest lower)
 
 -- ---- the place of the fault, and its reason
 
 pub data AtFault (kind : ℕ) (Right : Form → Entry → Type 0) (InForm : ℕ → Type 0) (bs : List ℕ) : ℕ → ℕ → Type 0 where
-  -- 1 channel word: there are under 4 bytes,
-  cut : OpenedType kind → length bs < 4 → AtFault kind Right InForm bs 0 1
-  -- or it breaks a rule
-  word : OpenedType kind → 4 ≤ length bs → ((form : Form) (asked : Asked) → ¬ ChannelWord kind (field bs 0 4) form asked) → AtFault kind Right InForm bs 0 1
-  -- 2 to 5, and 7: the first byte of the block at fault, or where a missing block should begin. One is due behind these, and breaks that rule
+  -- 1 channel word (or under 4 bytes), at the channel word: there are too few bytes for it, or it breaks a rule
+  noWord : OpenedType kind → length bs < 4 → AtFault kind Right InForm bs 0 1
+  wrongWord : OpenedType kind → 4 ≤ length bs → ((form : Form) (asked : Asked) → ¬ ChannelWord kind (field bs 0 4) form asked)
+      → AtFault kind Right InForm bs 0 1
+  -- 2 to 5, at the first byte of the block at fault: one is due behind these, and that is the lowest rule that it breaks
   block : {form : Form} {asked : Asked} {es : List Entry} {rest : List ℕ} {reason : ℕ} → Begins kind Right bs form asked es rest → Due asked (length es) rest
       → Lowest InForm form rest reason → AtFault kind Right InForm bs (4 + length (blocksBytes form es)) reason
-  -- 6 bytes after the counted blocks: the first of the bytes left over. As many blocks as the channel word says, and the body goes on
+  -- 6 bytes after the counted blocks, at the first of the bytes left over: there are as many blocks as the channel word says, and the body goes on
   over : {form : Form} {count : ℕ} {es : List Entry} {rest : List ℕ} → Begins kind Right bs form (exactly count) es rest → length es ≡ count
       → 1 ≤ length rest → AtFault kind Right InForm bs (4 + length (blocksBytes form es)) 6
+  -- 7 body ends where a block must begin, at that place: one is due behind these, and nothing is left
+  missing : {form : Form} {asked : Asked} {es : List Entry} → Begins kind Right bs form asked es [] → Due asked (length es) []
+      → AtFault kind Right InForm bs (4 + length (blocksBytes form es)) 7
