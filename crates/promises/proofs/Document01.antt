@@ -35,7 +35,7 @@ use Rattle.promises.specs.Building.{FlagsFor}
 use Rattle.promises.specs.Document01.{Document01}
 use Rattle.promises.proofs.BodiesKept.{body-says}
 use Rattle.promises.proofs.Keeping.{refused-exactly}
-use Rattle.promises.proofs.WriterKeeping.{write-accepts, write-first, write-ends, write-placed, write-fault, write-no-fault, write-room, write-no-room, write-length, length-once}
+use Rattle.promises.proofs.WriterKeeping.{write-accepts, write-first, write-ends, write-placed, write-room, write-no-room, write-length, length-once}
 use Rattle.promises.proofs.Building.{building}
 use Rattle.promises.proofs.Writer.{writable-written, accepts-writable, length-of}
 
@@ -114,8 +114,6 @@ document-01 =
       write-first = λ c typed room. write-first c room typed;
       write-accepts = λ c typed room. write-accepts c room typed;
       write-placed = write-placed;
-      write-fault = λ c typed room. write-fault c room typed;
-      write-no-fault = write-no-fault;
       write-room = write-room;
       write-no-room = write-no-room;
       write-length = λ c room z. let (long, is) = write-length c room z in (long, length-of c ∙ sym is);

@@ -1,5 +1,5 @@
 -- How each call ends: with what was asked for, or with one refusal from the table, whose place is fixed.
-use mathlib.Core.Path.{_≡_, refl, ap, _∙_}
+use mathlib.Core.Path.{_≡_, refl, sym, ap, _∙_}
 use mathlib.Core.List.{List, [], _∷_}
 use mathlib.Core.Bool.{Bool, true, false, not, false≢true}
 use mathlib.Core.Logic.{_⊎_, inl, inr, _≢_}
@@ -26,6 +26,7 @@ use Rattle.packet.specs.declared.PacketList.the-variants.{Listed, Unlisted}
 use Rattle.packet.specs.declared.PacketMessage.the-variants.{Given, Withheld}
 use Rattle.promises.specs.Refusals.{OneOf, readerRefusals, listerRefusals, messageRefusals}
 use Rattle.promises.specs.Endings.{zeroPacket, zeroMessage, Ends, readTold, listedTold, givenTold, Placed}
+use Rattle.promises.specs.Reasons.{ElseNone}
 use Rattle.packet.proofs.Told.{checked-15, read-told, refusal-numbered}
 use Rattle.promises.proofs.BodiesKept.{fault-kept}
 use Rattle.promises.proofs.Members.{one-among, one-ahead, one-behind}
@@ -82,6 +83,26 @@ module _ (buf : List ℕ) (s e : ℕ) where
       go (inl h) = rw h (record { room = refl; outer = λ l. (refl, refl); inner = λ n. absurd (outer-other n) })
       go (inr h) = body-placed raw (bodyChecked (window buf s e)) refl r (h .1)
 
+  -- what is not 15 has no reason
+  refused-else : (r : Refusal) → readPacket buf s e ≡ Refused r → r .number ≢ 15 → r .reason ≡ 0
+  unfolding readPacket bodyAnswer
+  refused-else r q other = go (bodyChecked (window buf s e)) refl (from-outer (outerRefusal buf s e) _ r refl q)
+    where
+      go : (x : Checked) → bodyChecked (window buf s e) ≡ x
+          → (r ≡ refused (outerRefusal buf s e) s) ⊎ ((outerRefusal buf s e ≡ 0) × (bodyAnswer x (window buf s e) s ≡ Refused r)) → r .reason ≡ 0
+      go x c (inl h) = ap (λ (y : Refusal). y .reason) h
+      go (Counted n) c (inr h) = let z : _≡_ {A = ℕ} 0 1 = cc (h .1) in absurd (omega arith)
+      go (Faulty f) c (inr h) =
+          let is : moved (s + bodyAt (flagsIn (window buf s e))) f ≡ r = cc (h .1) in
+          absurd (other (sym (ap (λ (y : Refusal). y .number) is) ∙ checked-15 (window buf s e) f c .0))
+
+  pub read-else : ElseNone (packetTold (readPacket buf s e) .refusal)
+  read-else = go (readPacket buf s e) refl
+    where
+      go : (x : PacketRead) → readPacket buf s e ≡ x → ElseNone (packetTold x .refusal)
+      go (Accepted p) q other = refl
+      go (Refused r) q other = refused-else r q other
+
   pub read-placed : Bytes buf → packetTold (readPacket buf s e) .refusal .number ≢ 0 → Placed (window buf s e) s (packetTold (readPacket buf s e) .refusal)
   read-placed raw = go (readPacket buf s e) refl
     where
@@ -116,3 +137,27 @@ module _ (buf : List ℕ) (s e : ℕ) where
           → Ends messageRefusals givenTold zeroMessage (messageTold (messageAnswer x s count k m))
       go (Accepted p) count m q = there (leb count k) m
       go (Refused r) count m q = inr (r, refl, one-ahead (r .number) readerRefusals (17 ∷ []) (refused-numbered buf s e r q))
+
+  pub list-else : (m n : ℕ) → ElseNone (listTold (listPacket buf s e m n) .refusal)
+  unfolding listPacket listAnswer
+  list-else m n = go (readPacket buf s e) (messageCount (window buf s e)) refl
+    where
+      fits : (t : Bool) (count : ℕ) → ElseNone (listTold (pick t (Unlisted (needing count (refused 16 s))) (Listed count)) .refusal)
+      fits true count other = refl
+      fits false count other = refl
+
+      go : (x : PacketRead) (count : ℕ) → readPacket buf s e ≡ x → ElseNone (listTold (listAnswer x s count (min m n)) .refusal)
+      go (Accepted p) count q = fits (ltb (min m n) count) count
+      go (Refused r) count q = refused-else buf s e r q
+
+  pub message-else : (k : ℕ) → ElseNone (messageTold (messagePacket buf s e k) .refusal)
+  unfolding messagePacket messageAnswer
+  message-else k = go (readPacket buf s e) (messageCount (window buf s e)) (kthMessage (window buf s e) k) refl
+    where
+      there : (t : Bool) (m : Message) → ElseNone (messageTold (pick t (Withheld (refused 17 s)) (Given m)) .refusal)
+      there true m other = refl
+      there false m other = refl
+
+      go : (x : PacketRead) (count : ℕ) (m : Message) → readPacket buf s e ≡ x → ElseNone (messageTold (messageAnswer x s count k m) .refusal)
+      go (Accepted p) count m q = there (leb count k) m
+      go (Refused r) count m q = refused-else buf s e r q

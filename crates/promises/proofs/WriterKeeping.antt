@@ -256,8 +256,8 @@ module _ (c : Contents) where
         → (at : ℕ) × BodyAtFault (c .fields .kind) (c .fields .flags) (c .body) at (writeTold (writePacket c room) .refusal .reason)
     write-fault typed = reasons (typed .body) (outcome c room)
 
-    pub write-no-fault : writeTold (writePacket c room) .refusal .number ≢ 15 → writeTold (writePacket c room) .refusal .reason ≡ 0
-    write-no-fault = no-reasons (outcome c room)
+    pub write-else : writeTold (writePacket c room) .refusal .number ≢ 15 → writeTold (writePacket c room) .refusal .reason ≡ 0
+    write-else = no-reasons (outcome c room)
 
     pub write-length : writeTold (writePacket c room) .refusal .number ≡ 0
         → LengthOf c (writeTold (writePacket c room) .length) × (writeTold (writePacket c room) .length ≡ contentsLength c)

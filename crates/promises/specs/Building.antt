@@ -46,16 +46,8 @@ pub record InForm (rule time : ℕ) : Type 0 where
   pub absolute : (code : ℕ) → rule ≡ 2 + code → InFormat code time
 
 -- an answer: its number, place 0, the room needed, its reason, and the state that is handed back. Written out: no definition of a refusal is cited
-abbrev pub tells : ℕ → ℕ → ℕ → Draft → StepTold
-tells number room reason d = record { refusal = record { number = number; place = 0; room = room; reason = reason }; draft = d }
-
--- an answer that is not 15 has reason 0
-abbrev pub says : ℕ → ℕ → Draft → StepTold
-says number room d = tells number room 0 d
-
--- 15, for this reason
-abbrev pub faults : ℕ → Draft → StepTold
-faults reason d = tells 15 0 reason d
+abbrev pub says : ℕ → ℕ → ℕ → Draft → StepTold
+says number room reason d = record { refusal = record { number = number; place = 0; room = room; reason = reason }; draft = d }
 
 -- the used count with a block of n bytes more: a time stamp of 8 bytes where there is a rule, an ID word of 4, then n bytes, then one pad
 -- byte if n is odd
@@ -82,34 +74,34 @@ pub record FlagsFor (rule flags : ℕ) : Type 0 where
 
 pub record Building : Type 0 where
   -- Opening: "17 for another type, a reserved time format or no rule in 0x30"
-  pub open-17 : (d : Draft) (kind rule len : ℕ) → ¬ Opens kind rule → stepTold (openStep d kind rule len) ≡ says 17 0 d
+  pub open-17 : (d : Draft) (kind rule len : ℕ) → ¬ Opens kind rule → stepTold (openStep d kind rule len) ≡ says 17 0 0 d
   -- "then 16": the channel word needs 4 bytes
-  pub open-16 : (d : Draft) (kind rule len : ℕ) → Opens kind rule → len < 4 → stepTold (openStep d kind rule len) ≡ says 16 4 d
+  pub open-16 : (d : Draft) (kind rule len : ℕ) → Opens kind rule → len < 4 → stepTold (openStep d kind rule len) ≡ says 16 4 0 d
   -- none otherwise: the channel word is used, with no block, whatever the state given
   pub opens : (d : Draft) (kind rule len : ℕ) → Opens kind rule → 4 ≤ len
-      → stepTold (openStep d kind rule len) ≡ says 0 0 (record { used = 4; blocks = 0; kind = kind; rule = rule })
+      → stepTold (openStep d kind rule len) ≡ says 0 0 0 (record { used = 4; blocks = 0; kind = kind; rule = rule })
   -- Adding: "1"
-  pub add-1 : (d : Draft) (len time n : ℕ) → ¬ SoundDraft d len → stepTold (addStep d len time n) ≡ says 1 0 d
+  pub add-1 : (d : Draft) (len time n : ℕ) → ¬ SoundDraft d len → stepTold (addStep d len time n) ≡ says 1 0 0 d
   -- "then 17 for n outside 1 to 65,535 or a 65,536th block in 0x30"
-  pub add-17 : (d : Draft) (len time n : ℕ) → SoundDraft d len → ¬ Takes d n → stepTold (addStep d len time n) ≡ says 17 0 d
+  pub add-17 : (d : Draft) (len time n : ℕ) → SoundDraft d len → ¬ Takes d n → stepTold (addStep d len time n) ≡ says 17 0 0 d
   -- "then 15 for a time out of form"; 02 §2: "3 time"
   pub add-15 : (d : Draft) (len time n : ℕ) → SoundDraft d len → Takes d n → 0 < d .rule → ¬ InForm (d .rule) time
-      → stepTold (addStep d len time n) ≡ faults 3 d
+      → stepTold (addStep d len time n) ≡ says 15 0 3 d
   -- "(and 17 for a time that isn't zero where none is stored)"
   pub add-stray : (d : Draft) (len time n : ℕ) → SoundDraft d len → Takes d n → d .rule ≡ 0 → time ≢ 0
-      → stepTold (addStep d len time n) ≡ says 17 0 d
+      → stepTold (addStep d len time n) ≡ says 17 0 0 d
   -- "then 16", with the whole body as room
   pub add-16 : (d : Draft) (len time n : ℕ) → SoundDraft d len → Takes d n → InForm (d .rule) time → (d .rule ≡ 0 → time ≡ 0)
-      → len < grownTo d n → stepTold (addStep d len time n) ≡ says 16 (grownTo d n) d
+      → len < grownTo d n → stepTold (addStep d len time n) ≡ says 16 (grownTo d n) 0 d
   -- none otherwise: one block more, of this size; the count goes up modulo 2^64
   pub adds : (d : Draft) (len time n : ℕ) → Fitting d len time n
-      → stepTold (addStep d len time n) ≡ says 0 0 (record { used = grownTo d n; blocks = (d .blocks + 1) % 2 ^ 64; kind = d .kind; rule = d .rule })
+      → stepTold (addStep d len time n) ≡ says 0 0 0 (record { used = grownTo d n; blocks = (d .blocks + 1) % 2 ^ 64; kind = d .kind; rule = d .rule })
   -- Closing: "1"
-  pub close-1 : (d : Draft) (len : ℕ) → ¬ SoundDraft d len → stepTold (closeStep d len) ≡ says 1 0 d
+  pub close-1 : (d : Draft) (len : ℕ) → ¬ SoundDraft d len → stepTold (closeStep d len) ≡ says 1 0 0 d
   -- "then 15 where the used count is 4 (no block)"; 02 §2: "7 body ends where a block must begin"
-  pub close-15 : (d : Draft) (len : ℕ) → SoundDraft d len → d .used ≡ 4 → stepTold (closeStep d len) ≡ faults 7 d
+  pub close-15 : (d : Draft) (len : ℕ) → SoundDraft d len → d .used ≡ 4 → stepTold (closeStep d len) ≡ says 15 0 7 d
   -- none otherwise: the state as it was
-  pub closes : (d : Draft) (len : ℕ) → SoundDraft d len → d .used ≢ 4 → stepTold (closeStep d len) ≡ says 0 0 d
+  pub closes : (d : Draft) (len : ℕ) → SoundDraft d len → d .used ≢ 4 → stepTold (closeStep d len) ≡ says 0 0 0 d
   -- What each step leaves in its buffer, by what its call promises (specs/Calls.antt); a refused one leaves it as it was (Demand1.buffer-untouched).
 
   -- opening: "writing the channel word, counter 0", bit 31 set in 0x50 where times are stored; behind it all as it was

@@ -24,7 +24,7 @@ use Rattle.promises.specs.Contents.{Typed, Accepts, outputOf}
 use Rattle.promises.specs.Refusals.{OneOf, readerRefusals, writerRefusals}
 use Rattle.promises.specs.Endings.{zeroMessage, Ends, listedTold, givenTold, writtenTold}
 use Rattle.promises.specs.Keeps.{Rule}
-use Rattle.promises.specs.Bodies.{BodyKept, BodyAtFault}
+use Rattle.promises.specs.Bodies.{BodyKept}
 use Rattle.promises.specs.WriterKeeps.{LengthOf, WriterRule, WriterKeeps}
 use Rattle.promises.specs.Building.{FlagsFor, Building}
 
@@ -65,10 +65,6 @@ pub record Document01 : Type 0 where
   pub write-accepts : (c : Contents) → Typed c → (room : ℕ) → (writeTold (writePacket c room) .refusal .number ≡ 0) ↔ WriterKeeps c room
   -- "For the writer and builder the place is 0"; "16 also gives the room needed (.. whole packet ..)"
   pub write-placed : (c : Contents) (room : ℕ) → writeTold (writePacket c room) .refusal .place ≡ 0
-  -- 02 §2: of 15 the reason is that of the body, all others have reason 0
-  pub write-fault : (c : Contents) → Typed c → (room : ℕ) → writeTold (writePacket c room) .refusal .number ≡ 15
-      → (at : ℕ) × BodyAtFault (c .fields .kind) (c .fields .flags) (c .body) at (writeTold (writePacket c room) .refusal .reason)
-  pub write-no-fault : (c : Contents) (room : ℕ) → writeTold (writePacket c room) .refusal .number ≢ 15 → writeTold (writePacket c room) .refusal .reason ≡ 0
   pub write-room : (c : Contents) (room : ℕ) → writeTold (writePacket c room) .refusal .number ≡ 16 → LengthOf c (writeTold (writePacket c room) .refusal .room)
   pub write-no-room : (c : Contents) (room : ℕ) → writeTold (writePacket c room) .refusal .number ≢ 16 → writeTold (writePacket c room) .refusal .room ≡ 0
   -- what is told of a packet that is written is its length, and so long are its bytes

@@ -18,4 +18,5 @@ pub mod Demand1
 pub mod Demand2
 pub mod Demand3
 pub mod Document01
+pub mod Reasons
 pub mod Cases
