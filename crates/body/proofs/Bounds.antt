@@ -140,10 +140,13 @@ faulty-is kind rule bs r e = go (openBody kind rule bs) refl e
     go (Shaped sh) q h =
         let x = walk-end sh bs (open-long kind rule bs sh q) in
         at (x .place) (x .there .2)
-        (⊎-elim (λ s. fault-for (x .place) 6 r (ending-faulty (length bs) (x .blocks) (x .place) r (sym (s .1) ∙ h) .0) (omega arith)) (λ s. let same : s .0 ≡ r = cc (sym (s .1) ∙ h) in subst (FaultAt (x .place)) same (s .2)) (x .how))
+        (⊎-elim
+        (λ s. fault-for (x .place) 6 r (ending-faulty (length bs) (x .blocks) (x .place) r (sym (s .1) ∙ h) .0) (omega arith))
+        (λ s. let same : s .0 ≡ r = cc (sym (s .1) ∙ h) in subst (FaultAt (x .place)) same (s .2))
+        (x .how))
     go Wrong q h = at 0 (omega arith) (fault-for 0 1 r (cc) (omega arith))
 
--- the place alone
+-- its number, and its place, alone
 pub faulty-number : (kind : ℕ) (rule : TimeRule) (bs : List ℕ) (r : Refusal) → checkBody kind rule bs ≡ Faulty r → (r .number ≡ 15) × (r .room ≡ 0)
 faulty-number kind rule bs r e =
     let is = faulty-is kind rule bs r e .0 .0 in
