@@ -63,7 +63,7 @@ abbrev pub writtenTold : Refusal → ℕ → WriteTold
 writtenTold r n = record { refusal = r; length = n }
 
 -- where the reader's refusals of a packet at the start of a window are placed, and their reasons; w: the window's bytes. 15 where the packet's body is
--- at fault, for the rule broken there; all others at the start, for reason 0; none gives room
+-- at fault, for the rule broken there; all others at the packet's start, with reason 0; none gives room
 pub record Placed (w : List ℕ) (start : ℕ) (r : Refusal) : Type 0 where
   pub room : r .room ≡ 0
   pub outer : r .number ≢ 15 → (r .place ≡ start) × (r .reason ≡ 0)
