@@ -20,11 +20,23 @@ pub fn describe(window: &Placed) -> String {
     format!("start {} end {} of {}", start, end, hex(&window.buf))
 }
 
-/// The number that a call returns is the one in its struct, and without a refusal there is no place and no room.
-fn returned(tally: &mut Tally, input: &dyn Fn() -> String, number: u64, refusal: &Refusal) {
+/// The number that a call returns is the one in its struct, and without a refusal there is no place, no room and no reason. 15 has a
+/// reason that the call can give; "all others have reason 0".
+fn returned(
+    tally: &mut Tally,
+    call: &Call,
+    input: &dyn Fn() -> String,
+    number: u64,
+    refusal: &Refusal,
+) {
     tally.require("the number returned", input, &number, &refusal.number);
     let is_none = *refusal == Refusal::default();
     tally.require("no refusal", input, &is_none, &(number == 0));
+    if number == 15 {
+        tally.reason(call, input, refusal.reason);
+    } else {
+        tally.require("no reason", input, &refusal.reason, &0);
+    }
 }
 
 /// "A refusal returns its number and place; all other results are zero".
@@ -44,9 +56,10 @@ macro_rules! zero_beside {
 pub fn read(tally: &mut Tally, window: &Placed) -> (u64, Packet) {
     let answer = library::read_packet(window);
     let wanted = expected::read_packet(window);
-    tally.compare(&READ, &|| describe(window), &answer, &wanted);
-    returned(tally, &|| describe(window), answer.0, &answer.1.refusal);
-    zero_beside!(tally, &|| describe(window), answer.1, Packet);
+    let input = || describe(window);
+    tally.compare(&READ, &input, &answer, &wanted);
+    returned(tally, &READ, &input, answer.0, &answer.1.refusal);
+    zero_beside!(tally, &input, answer.1, Packet);
     if answer.0 == 0 {
         tally.accepted(answer.1.fields.kind, answer.1.fields.flags);
     }
@@ -78,7 +91,7 @@ pub fn list(
     let input = || format!("lists of {} and {}; {}", starts, lengths, describe(window));
     tally.compare(&LIST, &input, &answer, &wanted);
     let (number, (list, first, second)) = answer;
-    returned(tally, &input, number, &list.refusal);
+    returned(tally, &LIST, &input, number, &list.refusal);
     zero_beside!(tally, &input, list, List);
     let kept = |list_of: &[u32]| {
         let told = MARGIN..MARGIN + list.count as usize;
@@ -96,7 +109,7 @@ pub fn message(tally: &mut Tally, window: &Placed, number: usize) -> (u64, Messa
     let wanted = expected::message(window, number);
     let input = || format!("message {}; {}", number, describe(window));
     tally.compare(&ONE_MESSAGE, &input, &answer, &wanted);
-    returned(tally, &input, answer.0, &answer.1.refusal);
+    returned(tally, &ONE_MESSAGE, &input, answer.0, &answer.1.refusal);
     zero_beside!(tally, &input, answer.1, Message);
     answer
 }
@@ -104,8 +117,9 @@ pub fn message(tally: &mut Tally, window: &Placed, number: usize) -> (u64, Messa
 pub fn recording(tally: &mut Tally, window: &Placed) -> (u64, Recording) {
     let answer = library::read_recording(window);
     let wanted = expected::read_recording(window);
-    tally.compare(&RECORDING, &|| describe(window), &answer, &wanted);
-    returned(tally, &|| describe(window), answer.0, &answer.1.refusal);
+    let input = || describe(window);
+    tally.compare(&RECORDING, &input, &answer, &wanted);
+    returned(tally, &RECORDING, &input, answer.0, &answer.1.refusal);
     answer
 }
 
@@ -182,7 +196,7 @@ pub fn write(tally: &mut Tally, fields: &Fields, body: &[u8], room: usize) -> (W
     let answer = run(library::write_packet);
     tally.compare(&WRITE, &input, &answer, &run(expected::write_packet));
     let (number, (written, mut out)) = answer;
-    returned(tally, &input, number, &written.refusal);
+    returned(tally, &WRITE, &input, number, &written.refusal);
     zero_beside!(tally, &input, written, Written);
     let packet = MARGIN..MARGIN + written.length as usize;
     let mut bytes = out.iter().enumerate();
@@ -194,8 +208,13 @@ pub fn write(tally: &mut Tally, fields: &Fields, body: &[u8], room: usize) -> (W
 
 /// The writer on a recipe's fields and body.
 pub fn write_recipe(tally: &mut Tally, recipe: &Recipe, room: usize) -> u64 {
+    write_refusal(tally, recipe, room).number
+}
+
+/// The same, with all of the refusal.
+pub fn write_refusal(tally: &mut Tally, recipe: &Recipe, room: usize) -> Refusal {
     let (written, _) = write(tally, &fields_of(recipe), &recipe.body, room);
-    written.refusal.number
+    written.refusal
 }
 
 pub fn fields_of(recipe: &Recipe) -> Fields {
@@ -255,7 +274,7 @@ pub fn step(tally: &mut Tally, draft: Draft, buf: &[u8], step: &Step) -> (u64, D
     let answer = (number, (after, ours));
     tally.compare(call, &input, &answer, &(wanted.0, (wanted.1, theirs)));
     let (_, (_, ours)) = answer;
-    returned(tally, &input, number, &after.refusal);
+    returned(tally, call, &input, number, &after.refusal);
     let built = ours[lent].to_vec();
     if number != 0 {
         let refusal = after.refusal;

@@ -42,7 +42,7 @@ macro_rules! refused {
 }
 
 fn refusal(from: second::Refusal) -> Refusal {
-    same!(from => Refusal: number place room)
+    same!(from => Refusal: number place room reason)
 }
 
 fn part(from: second::Part) -> Part {

@@ -5,24 +5,34 @@ use std::collections::{BTreeMap, BTreeSet};
 use std::fmt::Debug;
 use std::process::exit;
 
-/// A call of the C interface: its place in the tally, its name, and the numbers that it can return, in lists.
-pub struct Call(usize, &'static str, &'static [&'static [u64]]);
+/// A call of the C interface: its place in the tally, its name, the numbers that it can return, in lists, and the reasons that it can
+/// give with 15.
+pub struct Call(
+    usize,
+    &'static str,
+    &'static [&'static [u64]],
+    &'static [u64],
+);
 
 /// The reader's refusals.
 const READERS: &[u64] = &[1, 2, 3, 4, 5, 6, 7, 8, 9, 10, 11, 12, 13, 14, 15];
 
-pub static READ: Call = Call(0, "ch11_read_packet", &[&[0], READERS]);
-pub static LIST: Call = Call(1, "ch11_list_messages", &[&[0], READERS, &[16]]);
-pub static ONE_MESSAGE: Call = Call(2, "ch11_message", &[&[0], READERS, &[17]]);
-pub static RECORDING: Call = Call(3, "ch11_read_recording", &[&[0], READERS]);
+/// The reasons of the block walk.
+const WALKS: &[u64] = &[1, 2, 3, 4, 5, 6, 7];
+
+pub static READ: Call = Call(0, "ch11_read_packet", &[&[0], READERS], WALKS);
+pub static LIST: Call = Call(1, "ch11_list_messages", &[&[0], READERS, &[16]], WALKS);
+pub static ONE_MESSAGE: Call = Call(2, "ch11_message", &[&[0], READERS, &[17]], WALKS);
+pub static RECORDING: Call = Call(3, "ch11_read_recording", &[&[0], READERS], WALKS);
 pub static WRITE: Call = Call(
     4,
     "ch11_write_packet",
     &[&[0, 5, 6, 7, 8, 9, 12, 15, 16, 17]],
+    WALKS,
 );
-pub static OPEN: Call = Call(5, "ch11_open", &[&[0, 16, 17]]);
-pub static ADD: Call = Call(6, "ch11_add", &[&[0, 1, 15, 16, 17]]);
-pub static CLOSE: Call = Call(7, "ch11_close", &[&[0, 1, 15]]);
+pub static OPEN: Call = Call(5, "ch11_open", &[&[0, 16, 17]], &[]);
+pub static ADD: Call = Call(6, "ch11_add", &[&[0, 1, 15, 16, 17]], &[3]);
+pub static CLOSE: Call = Call(7, "ch11_close", &[&[0, 1, 15]], &[7]);
 
 static CALLS: [&Call; 8] = [
     &READ,
@@ -45,6 +55,8 @@ const MOST_DIFFERENCES: u64 = 10;
 pub struct Tally {
     /// How often each call returned each number.
     returned: [BTreeMap<u64, u64>; 8],
+    /// How often each call gave each reason.
+    reasons: [BTreeMap<u64, u64>; 8],
     /// Types and flags of the packets that the reader accepted.
     types: BTreeSet<u64>,
     flags: BTreeSet<u64>,
@@ -62,10 +74,20 @@ impl Tally {
     where
         A: PartialEq + Debug,
     {
-        let Call(index, name, numbers) = call;
+        let Call(index, name, numbers, _) = call;
         *self.returned[*index].entry(library.0).or_default() += 1;
         if library != wanted || !numbers.concat().contains(&library.0) {
             self.differs(name, &input(), library, wanted);
+        }
+    }
+
+    /// Counts a 15 by its reason, which must be one that the call can give.
+    pub fn reason(&mut self, call: &Call, input: Input, reason: u64) {
+        let Call(index, name, _, reasons) = call;
+        *self.reasons[*index].entry(reason).or_default() += 1;
+        if !reasons.contains(&reason) {
+            let (given, can) = (format!("reason {}", reason), format!("{:?}", reasons));
+            self.differs(name, &input(), &given, &can);
         }
     }
 
@@ -100,13 +122,13 @@ impl Tally {
     /// Prints what was covered and answers whether nothing is missing and nothing differs.
     pub fn report(&self) -> bool {
         let mut missing = 0;
-        for Call(index, name, numbers) in CALLS {
+        for Call(index, name, numbers, reasons) in CALLS {
             let counts = &self.returned[*index];
             print!("{}: {} calls;", name, counts.values().sum::<u64>());
-            for number in numbers.concat() {
-                let count = counts.get(&number).unwrap_or(&0);
-                print!(" {}:{}", number, count);
-                missing += u64::from(*count == 0);
+            missing += print_counts(counts, &numbers.concat());
+            if !reasons.is_empty() {
+                print!("; reasons");
+                missing += print_counts(&self.reasons[*index], reasons);
             }
             println!();
         }
@@ -120,11 +142,22 @@ impl Tally {
         if !all_types || !all_flags {
             println!("not those of the rules: {:?} {:?}", self.types, self.flags);
         }
-        println!("returned numbers never met: {}", missing);
+        println!("numbers and reasons never met: {}", missing);
         let (calls, differences) = (in_thousands(self.calls()), self.differences);
         println!("compared {} calls, {} differences", calls, differences);
         missing == 0 && all_types && all_flags && differences == 0
     }
+}
+
+/// Prints how often each of these was met, and answers how many never were.
+fn print_counts(counts: &BTreeMap<u64, u64>, wanted: &[u64]) -> u64 {
+    let mut missing = 0;
+    for number in wanted {
+        let count = counts.get(number).unwrap_or(&0);
+        print!(" {}:{}", number, count);
+        missing += u64::from(*count == 0);
+    }
+    missing
 }
 
 /// The part of a long text around its byte `first`; these texts are ASCII.

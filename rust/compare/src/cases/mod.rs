@@ -1,4 +1,4 @@
-//! The cases of document 01, in `table.txt`: what is written there is required of the library, whatever the second program says.
+//! The cases of documents 01 and 02, in `table.txt`: what is written there is required of the library, whatever the second program says.
 
 mod described;
 mod grammar;
@@ -46,7 +46,7 @@ pub fn all(tally: &mut Tally, random: &mut Random) {
             cases.run(&line, &given);
         }
     }
-    println!("cases of document 01: {}", cases.count);
+    println!("cases of documents 01 and 02: {}", cases.count);
 }
 
 impl Cases<'_> {

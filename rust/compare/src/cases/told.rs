@@ -11,8 +11,8 @@ macro_rules! words {
     ($($name:literal $value:expr),+) => { vec![$(format!("{}={}", $name, $value)),+] };
 }
 
-/// 0 and the answer's values, or a refusal: its place counts from `here`; without a window the place is 0, and not told. That all other
-/// results are zero then, `check` requires of every call.
+/// 0 and the answer's values, or a refusal: its place counts from `here`; without a window the place is 0, and not told, nor is a room or
+/// reason of 0. That all other results are zero then, `check` requires of every call.
 fn answer(refusal: &Refusal, here: Option<u64>, values: Vec<String>) -> Told {
     let number = vec![refusal.number.to_string()];
     if refusal.number == 0 {
@@ -25,6 +25,9 @@ fn answer(refusal: &Refusal, here: Option<u64>, values: Vec<String>) -> Told {
     }
     if refusal.room != 0 {
         told.extend(words!("room" refusal.room));
+    }
+    if refusal.reason != 0 {
+        told.extend(words!("reason" refusal.reason));
     }
     told
 }

@@ -1,6 +1,6 @@
 //! The words of the table of cases: lines, numbers, bytes and ranges.
 
-/// A line that is a case or prepares some, with the sentence of document 01 that stands above it.
+/// A line that is a case or prepares some, with the sentence that stands above it.
 pub struct Line {
     pub sentence: &'static str,
     pub text: &'static str,
