@@ -2,9 +2,10 @@
 
 use crate::check;
 use crate::tally::Tally;
-use generate::opened::{Block, Opened, MESSAGE, UART};
+use ch11::raw::Packet;
+use generate::opened::{Block, Fault, Opened, MESSAGE, UART};
 use generate::random::Random;
-use generate::recipe::Recipe;
+use generate::recipe::{Placed, Recipe};
 use generate::recording::small_packets;
 
 pub fn all(tally: &mut Tally, random: &mut Random) {
@@ -71,7 +72,7 @@ fn message_channel_words(tally: &mut Tally, random: &mut Random) {
                 opened.blocks[0] = Block::sound(random, 1, 1);
                 opened.blocks[0].n = n;
                 let wanted = opened.message_fault();
-                opened_body(tally, random, &opened, wanted);
+                opened_body(tally, random, 1, &opened, wanted);
             }
         }
     }
@@ -83,7 +84,8 @@ fn uart_channel_words(tally: &mut Tally, random: &mut Random) {
         for bit in 0..31 {
             let mut opened = Opened::sound(random, UART, rule, 1);
             opened.channel_word |= 1 << bit;
-            opened_body(tally, random, &opened, Some(0));
+            let fault = Fault { at: 0, reason: 1 };
+            opened_body(tally, random, rule, &opened, Some(fault));
         }
     }
 }
@@ -95,23 +97,53 @@ fn pad_bits(tally: &mut Tally, random: &mut Random) {
             let mut opened = Opened::sound(random, kind, rule, 1);
             opened.blocks = vec![Block::sound(random, rule, 3)];
             opened.blocks[0].pad = vec![1 << bit];
-            let block_at = opened.block_at(0);
-            opened_body(tally, random, &opened, Some(block_at));
+            let fault = opened.fault_in(0, 5);
+            opened_body(tally, random, rule, &opened, Some(fault));
         }
     }
 }
 
-/// All readers on a packet of this body, which has a fault of layout at this place or none.
-fn opened_body(tally: &mut Tally, random: &mut Random, opened: &Opened, fault: Option<usize>) {
-    let mut recipe = Recipe::sound(random, opened.kind, 0);
+/// All readers and the writer on a packet of this body under this time rule, which has this fault of layout or none.
+fn opened_body(
+    tally: &mut Tally,
+    random: &mut Random,
+    rule: u64,
+    opened: &Opened,
+    fault: Option<Fault>,
+) {
+    let (recipe, window) = packet_of(random, rule, opened);
+    let (_, packet) = check::window(tally, random, &window);
+    held_to(tally, &recipe, &window, &packet, fault);
+}
+
+/// A packet of this body, under flags that have this time rule, and the window that it is placed in.
+pub fn packet_of(random: &mut Random, rule: u64, opened: &Opened) -> (Recipe, Placed) {
+    let flags = if rule < 2 { 0 } else { 0xC0 | (rule - 2) << 2 };
+    let mut recipe = Recipe::sound(random, opened.kind, flags);
     recipe.body = opened.bytes();
     let window = recipe.placed(random);
-    let (number, packet) = check::window(tally, random, &window);
+    (recipe, window)
+}
+
+/// What the reader answers, and what the writer does, has this fault of layout or none: its number, place and reason.
+pub fn held_to(
+    tally: &mut Tally,
+    recipe: &Recipe,
+    window: &Placed,
+    packet: &Packet,
+    fault: Option<Fault>,
+) {
     let body_at = window.start + recipe.body_at();
-    let wanted = fault.map_or((0, 0), |at| (15, (body_at + at) as u64));
-    let answer = (number, packet.refusal.place);
-    let input = || check::describe(&window);
+    let wanted = fault.map_or((0, 0, 0), |fault| {
+        (15, (body_at + fault.at) as u64, fault.reason)
+    });
+    let read = packet.refusal;
+    let answer = (read.number, read.place, read.reason);
+    let input = || check::describe(window);
     tally.require("an opened body", &input, &answer, &wanted);
+    let written = check::write_refusal(tally, recipe, recipe.right_length());
+    let answer = (written.number, written.reason);
+    tally.require("an opened body", &input, &answer, &(wanted.0, wanted.2));
 }
 
 /// Every pair of list lengths below 6, and every message number below 6.

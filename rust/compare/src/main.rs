@@ -7,6 +7,7 @@ mod cases;
 mod check;
 mod elsewhere;
 mod expected;
+mod flaws;
 mod large;
 mod library;
 mod rounds;

@@ -2,7 +2,7 @@
 //! causes, every alteration and cut of small packets, and the fields whose rules are at their limits.
 
 use crate::tally::Tally;
-use crate::{bodies, building, cases, check, elsewhere, large};
+use crate::{bodies, building, cases, check, elsewhere, flaws, large};
 use generate::causes::{causes, with_faults, Cause};
 use generate::opened::{MESSAGE, UART};
 use generate::random::Random;
@@ -12,7 +12,7 @@ use generate::recording::small_packets;
 type Part = fn(&mut Tally, &mut Random);
 
 pub fn all(tally: &mut Tally, random: &mut Random) {
-    let parts: [Part; 15] = [
+    let parts: [Part; 16] = [
         cases::all,
         windows,
         types_and_flags,
@@ -26,6 +26,7 @@ pub fn all(tally: &mut Tally, random: &mut Random) {
         alterations,
         cuts,
         bodies::all,
+        flaws::all,
         building::all,
         large::all,
     ];
@@ -149,20 +150,20 @@ fn rules_of(faults: &[Cause]) -> String {
 }
 
 /// A packet with these faults at once: the one that is tested first is given, at "the start of the packet, for 15 the channel word or
-/// the first byte of the block at fault".
+/// the first byte of the block at fault", with its reason.
 fn faulty_window(tally: &mut Tally, random: &mut Random, faults: &[Cause]) {
     let (recipe, number) = with_faults(random, faults);
     let window = recipe.placed(random);
-    let inside = if number == 15 {
-        recipe.body_at() + recipe.fault_at
+    let (inside, reason) = if number == 15 {
+        (recipe.body_at() + recipe.fault.at, recipe.fault.reason)
     } else {
-        0
+        (0, 0)
     };
-    let wanted = (number, (window.start + inside) as u64);
+    let wanted = (number, (window.start + inside) as u64, reason);
     let (returned, packet) = check::window(tally, random, &window);
-    let answer = (returned, packet.refusal.place);
+    let answer = (returned, packet.refusal.place, packet.refusal.reason);
     tally.require(
-        "number and place by rule",
+        "number, place and reason by rule",
         &|| rules_of(faults),
         &answer,
         &wanted,
@@ -175,12 +176,13 @@ fn faulty_window(tally: &mut Tally, random: &mut Random, faults: &[Cause]) {
 /// A writer's input with these faults at once.
 fn faulty_input(tally: &mut Tally, random: &mut Random, faults: &[Cause]) {
     let (recipe, number) = with_faults(random, faults);
-    let returned = check::write_recipe(tally, &recipe, recipe.output_length());
+    let reason = if number == 15 { recipe.fault.reason } else { 0 };
+    let refusal = check::write_refusal(tally, &recipe, recipe.output_length());
     tally.require(
-        "the writer's number by rule",
+        "the writer's number and reason by rule",
         &|| rules_of(faults),
-        &returned,
-        &number,
+        &(refusal.number, refusal.reason),
+        &(number, reason),
     );
 }
 

@@ -1,6 +1,6 @@
 //! The causes of each refusal, one by one: each makes a sound recipe faulty by the rule it quotes, and by no rule that is tested earlier.
 
-use crate::opened::{Block, Opened, MESSAGE, UART};
+use crate::opened::{Block, Fault, Flaws, Opened, MESSAGE, UART};
 use crate::random::Random;
 use crate::recipe::{some_rule, sum_width, time_out_of_form, Recipe, TYPES};
 
@@ -131,7 +131,7 @@ static RULES: &[Rule] = &[
         |r, _| bend_filler(r, |length| length / 2, 0xFF),
     ]),
     Rule(15, Both, "start with a 4-byte channel word", &[
-        |r, x| open(r, x, EITHER, 1, |body, x| body.keep(1 + x.index(3), 0)),
+        |r, x| open(r, x, EITHER, 1, |body, x| body.keep(1 + x.index(3), WORD)),
     ]),
     Rule(15, Both, "0x30: bits 31-18 of the channel word are zero.", &[
         |r, x| open(r, x, MESSAGE, 1, |body, _| body.word(body.channel_word | 1 << 18)),
@@ -170,25 +170,27 @@ static RULES: &[Rule] = &[
         |r, x| open(r, x, UART, 1, |body, _| body.word(body.channel_word | 1 << 30)),
         |r, x| open(r, x, UART, 1, |body, x| body.word(body.channel_word | 1 << x.below(31))),
     ]),
-    Rule(15, Both, "One or more blocks, to the end of the body.", &[|r, x| open(r, x, UART, 1, |body, _| body.keep(4, 4))]),
+    Rule(15, Both, "One or more blocks, to the end of the body.", &[
+        |r, x| open(r, x, UART, 1, |body, _| body.keep(4, body.fault_in(0, 7))),
+    ]),
     Rule(15, Both, "a time stamp of 8 bytes [...], an ID word of 4", &[
-        |r, x| open(r, x, EITHER, 3, |body, x| body.keep(body.block_at(2) + 1 + x.index(3), body.block_at(2))),
-        |r, x| open(r, x, MESSAGE, 3, |body, x| body.keep(body.block_at(2) + 1 + x.index(11), body.block_at(2))),
+        |r, x| open(r, x, EITHER, 3, |body, x| body.keep(body.block_at(2) + 1 + x.index(3), body.fault_in(2, 2))),
+        |r, x| open(r, x, MESSAGE, 3, |body, x| body.keep(body.block_at(2) + 1 + x.index(11), body.fault_in(2, 2))),
     ]),
     Rule(15, Both, "then n bytes", &[
-        |r, x| open(r, x, EITHER, 2, |body, _| body.bend_block(1, |block| block.bytes.truncate(2))),
-        |r, x| open(r, x, EITHER, 2, |body, _| body.bend_block(1, |block| block.bytes.clear())),
-        |r, x| open(r, x, EITHER, 2, |body, _| body.bend_block(1, |block| block.n = 65_535)),
+        |r, x| open(r, x, EITHER, 2, |body, _| body.bend_block(1, 2, |block| block.bytes.truncate(2))),
+        |r, x| open(r, x, EITHER, 2, |body, _| body.bend_block(1, 2, |block| block.bytes.clear())),
+        |r, x| open(r, x, EITHER, 2, |body, _| body.bend_block(1, 2, |block| block.n = 65_535)),
     ]),
     Rule(15, Both, "then one zero pad byte if n is odd", &[
-        |r, x| open(r, x, EITHER, 4, |body, _| body.bend_block(1, |block| block.pad = vec![1])),
-        |r, x| open(r, x, EITHER, 4, |body, _| body.bend_block(2, |block| block.pad = vec![0x80])),
-        |r, x| open(r, x, EITHER, 4, |body, _| body.bend_block(3, |block| block.pad = vec![0xFF])),
-        |r, x| open(r, x, EITHER, 4, |body, _| body.bend_block(3, |block| block.pad.clear())),
+        |r, x| open(r, x, EITHER, 4, |body, _| body.bend_block(1, 5, |block| block.pad = vec![1])),
+        |r, x| open(r, x, EITHER, 4, |body, _| body.bend_block(2, 5, |block| block.pad = vec![0x80])),
+        |r, x| open(r, x, EITHER, 4, |body, _| body.bend_block(3, 5, |block| block.pad = vec![0xFF])),
+        |r, x| open(r, x, EITHER, 4, |body, _| body.bend_block(3, 2, |block| block.pad.clear())),
     ]),
     Rule(15, Both, "n = 0 is refused", &[
-        |r, x| open(r, x, EITHER, 3, |body, _| body.bend_block(1, |block| block.n = 0)),
-        |r, x| open(r, x, EITHER, 3, |body, _| body.bend_block(2, empty)),
+        |r, x| open(r, x, EITHER, 3, |body, _| body.bend_block(1, 4, |block| block.n = 0)),
+        |r, x| open(r, x, EITHER, 3, |body, _| body.bend_block(2, 4, empty)),
     ]),
     Rule(15, Both, "Times: flag bit 6 clear means a value below 2^48", &[
         |r, x| bend_message_time(r, x, 1, MESSAGE),
@@ -199,6 +201,20 @@ static RULES: &[Rule] = &[
         |r, x| bend_message_time(r, x, 2, UART),
         |r, x| bend_message_time(r, x, 3, MESSAGE),
         |r, x| bend_message_time(r, x, 3, UART),
+    ]),
+    Rule(15, Both, "For a block that breaks several, the lowest number from 2 to 5 wins.", &[
+        |r, x| flaw(r, x, |x| Flaws { n: 2, missing: 1 + x.index(2), mistimed: true, pad: 0 }),
+        |r, x| flaw(r, x, |x| Flaws { n: 2, missing: 3 + x.index(4), mistimed: true, pad: 0 }), // the head cut behind its whole stamp
+        |r, x| flaw(r, x, |_| Flaws { n: 1, missing: 1, mistimed: true, pad: 1 }),
+        |r, x| flaw(r, x, |x| Flaws { n: 0, missing: 1 + x.index(2), mistimed: false, pad: 0 }), // of the head n is there
+        |r, x| flaw(r, x, |x| Flaws { n: 0, missing: 1 + x.index(2), mistimed: true, pad: 0 }),
+        |r, x| flaw(r, x, |_| Flaws { n: 0, missing: 0, mistimed: true, pad: 0 }),
+        |r, x| flaw(r, x, |_| Flaws { n: 3, missing: 0, mistimed: true, pad: 1 }),
+    ]),
+    Rule(15, Both, "Have the block walk name the rule broken", &[
+        |r, x| first_of_flaws(r, x, Flaws { n: 2, missing: 0, mistimed: true, pad: 0 }),
+        |r, x| first_of_flaws(r, x, Flaws { n: 0, missing: 0, mistimed: false, pad: 0 }),
+        |r, x| first_of_flaws(r, x, Flaws { n: 1, missing: 0, mistimed: false, pad: 1 }),
     ]),
     Rule(16, Writer, "no room in a list or output", &[
         |r, _| r.output = Some(|length| length - 1),
@@ -339,8 +355,11 @@ fn bend_filler(recipe: &mut Recipe, place: fn(usize) -> usize, byte: u8) {
 /// Either opened type.
 const EITHER: u64 = 0;
 
-/// Bends a body and answers where in it the fault is.
-type Bend = fn(&mut Opened, &mut Random) -> usize;
+/// A fault of the channel word.
+const WORD: Fault = Fault { at: 0, reason: 1 };
+
+/// Bends a body and answers the fault.
+type Bend = fn(&mut Opened, &mut Random) -> Fault;
 
 /// Gives the recipe a body of this opened type and so many blocks, then bent.
 fn open(recipe: &mut Recipe, random: &mut Random, kind: u64, count: usize, bend: Bend) {
@@ -348,48 +367,48 @@ fn open(recipe: &mut Recipe, random: &mut Random, kind: u64, count: usize, bend:
     let kind = if kind == EITHER { either } else { kind };
     let rule = some_rule(random, kind, recipe.flags);
     let mut body = Opened::sound(random, kind, rule, count);
-    let fault_at = bend(&mut body, random);
-    give_body(recipe, &body, fault_at);
+    let fault = bend(&mut body, random);
+    give_body(recipe, &body, fault);
 }
 
-fn give_body(recipe: &mut Recipe, body: &Opened, fault_at: usize) {
+fn give_body(recipe: &mut Recipe, body: &Opened, fault: Fault) {
     recipe.kind = body.kind;
     recipe.channel = recipe.channel.max(1);
     recipe.body = body.bytes();
-    recipe.fault_at = fault_at;
+    recipe.fault = fault;
 }
 
 impl Opened {
     /// A faulty channel word.
-    fn word(&mut self, word: u64) -> usize {
+    fn word(&mut self, word: u64) -> Fault {
         self.channel_word = word;
-        0
+        WORD
     }
 
     /// A channel word that counts other blocks than there are: the fault is at this block, missing or left over.
-    fn counts(&mut self, word: u64, block: usize) -> usize {
+    fn counts(&mut self, word: u64, block: usize) -> Fault {
         self.channel_word = word;
-        self.block_at(block)
+        self.miscounted(block)
     }
 
     /// So many bytes behind the last block.
-    fn leave_over(&mut self, bytes: usize) -> usize {
+    fn leave_over(&mut self, bytes: usize) -> Fault {
         self.leftover = vec![0; bytes];
-        self.block_at(self.blocks.len())
+        self.fault_in(self.blocks.len(), 6)
     }
 
-    /// The first bytes only, with a fault there.
-    fn keep(&mut self, bytes: usize, fault_at: usize) -> usize {
+    /// The first bytes only, which makes this fault.
+    fn keep(&mut self, bytes: usize, fault: Fault) -> Fault {
         self.cut = self.bytes().len() - bytes;
-        fault_at
+        fault
     }
 
-    /// Makes a block one of three bytes and a pad, then bends it.
-    fn bend_block(&mut self, number: usize, bend: fn(&mut Block)) -> usize {
+    /// Makes a block one of three bytes and a pad, then bends it so that it breaks the rule of this reason.
+    fn bend_block(&mut self, number: usize, reason: u64, bend: fn(&mut Block)) -> Fault {
         let block = &mut self.blocks[number];
         (block.n, block.bytes, block.pad) = (3, vec![7; 3], vec![0]);
         bend(block);
-        self.block_at(number)
+        self.fault_in(number, reason)
     }
 }
 
@@ -398,17 +417,61 @@ fn empty(block: &mut Block) {
     (block.n, block.bytes, block.pad) = (0, Vec::new(), Vec::new());
 }
 
-/// Gives a body under this time rule (1 to 3) with one message time that the rule refuses.
-fn bend_message_time(recipe: &mut Recipe, random: &mut Random, rule: u64, kind: u64) {
+/// Puts message times under this rule (1 to 3).
+fn with_message_rule(recipe: &mut Recipe, rule: u64) {
     recipe.flags &= !0x40;
     if rule > 1 {
         with_format(recipe, rule - 2).time = 0;
         recipe.flags |= 0x40;
     }
+}
+
+/// Gives a body under this time rule (1 to 3) with one message time that the rule refuses.
+fn bend_message_time(recipe: &mut Recipe, random: &mut Random, rule: u64, kind: u64) {
+    with_message_rule(recipe, rule);
     let count = 1 + random.index(4);
     let number = random.index(count);
     let mut body = Opened::sound(random, kind, rule, count);
     body.blocks[number].time = time_out_of_form(random, rule);
-    let fault_at = body.block_at(number);
-    give_body(recipe, &body, fault_at);
+    let fault = body.fault_in(number, 3);
+    give_body(recipe, &body, fault);
+}
+
+/// A sound body of either type and so many blocks, for one to get these flaws, and its time rule: one of 1 to 3 where a time is to be out
+/// of form.
+fn body_for_flaws(
+    recipe: &mut Recipe,
+    random: &mut Random,
+    flaws: Flaws,
+    count: usize,
+) -> (Opened, u64) {
+    let kind = random.choose(&[MESSAGE, UART]);
+    let mut rule = some_rule(random, kind, recipe.flags);
+    if flaws.mistimed {
+        rule = 1 + random.below(3);
+        with_message_rule(recipe, rule);
+    }
+    (Opened::sound(random, kind, rule, count), rule)
+}
+
+/// Gives a body of which one block, the first or a later one, has these flaws.
+fn flaw(recipe: &mut Recipe, random: &mut Random, flaws: fn(&mut Random) -> Flaws) {
+    let flaws = flaws(random);
+    let count = 1 + random.index(4);
+    let number = random.index(count);
+    let (mut body, rule) = body_for_flaws(recipe, random, flaws, count);
+    let fault = body.flaw(random, rule, number, flaws);
+    give_body(recipe, &body, fault.expect("flaws that are a fault"));
+}
+
+/// Gives a body of which one block has these flaws, and a later one some of its own: the walk stops at the first.
+fn first_of_flaws(recipe: &mut Recipe, random: &mut Random, flaws: Flaws) {
+    let count = 2 + random.index(3);
+    let number = random.index(count - 1);
+    let later = number + 1 + random.index(count - number - 1);
+    let (mut body, rule) = body_for_flaws(recipe, random, flaws, count);
+    let others = Flaws::some(random);
+    body.flaw(random, rule, later, others);
+    let fault = body.flaw(random, rule, number, flaws);
+    give_body(recipe, &body, fault.expect("flaws that are a fault"));
 }

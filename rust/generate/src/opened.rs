@@ -1,7 +1,7 @@
 //! Bodies of the two opened types, block by block, so that each rule of their layout can be broken on its own.
 
 use crate::random::Random;
-use crate::recipe::{put, time_in_form};
+use crate::recipe::{put, time_in_form, time_out_of_form};
 
 pub const MESSAGE: u64 = 0x30;
 pub const UART: u64 = 0x50;
@@ -14,6 +14,27 @@ pub struct Block {
     pub n: u64,
     pub bytes: Vec<u8>,
     pub pad: Vec<u8>,
+}
+
+/// Where a body breaks its layout, counted from its first byte, and by which rule: "1 channel word (or under 4 bytes), 2 block cut short,
+/// 3 time, 4 length zero, 5 pad not zero, 6 bytes after the counted blocks, 7 body ends where a block must begin".
+#[derive(Clone, Copy, Debug, Default, PartialEq, Eq)]
+pub struct Fault {
+    pub at: usize,
+    pub reason: u64,
+}
+
+/// How one block breaks the layout, in none, one or several ways.
+#[derive(Clone, Copy, Debug, Default)]
+pub struct Flaws {
+    /// n, which may be 0.
+    pub n: usize,
+    /// Its time is out of form, where a time is stored that has one.
+    pub mistimed: bool,
+    /// Its pad, where n is odd.
+    pub pad: u8,
+    /// The bytes that are missing at its end, which is then the body's; up to the whole block.
+    pub missing: usize,
 }
 
 #[derive(Clone, Debug)]
@@ -36,6 +57,19 @@ impl Block {
             n: n as u64,
             bytes: random.bytes(n),
             pad: vec![0; n % 2],
+        }
+    }
+}
+
+impl Flaws {
+    /// None, one or several, by chance.
+    pub fn some(random: &mut Random) -> Flaws {
+        let missing = 1 + random.index(4);
+        Flaws {
+            n: random.choose(&[0, 1, 2, 3]),
+            mistimed: random.one_in(2),
+            pad: random.choose(&[0, 1, 0x80, 0xFF]),
+            missing: random.choose(&[0, 0, missing]),
         }
     }
 }
@@ -90,9 +124,53 @@ impl Opened {
         4 + self.blocks[..number].iter().map(whole).sum::<usize>()
     }
 
-    /// Where the fault stands in a 0x30 body of which the channel word, the count of blocks or an n of 0 may be at fault; nothing where
-    /// it is sound. The channel word is looked at first, then the blocks from the first.
-    pub fn message_fault(&self) -> Option<usize> {
+    /// The block of this number breaks this rule.
+    pub fn fault_in(&self, number: usize, reason: u64) -> Fault {
+        let at = self.block_at(number);
+        Fault { at, reason }
+    }
+
+    /// A count of blocks that isn't theirs: the block of this number is missing, or left over.
+    pub fn miscounted(&self, number: usize) -> Fault {
+        self.fault_in(number, if number < self.blocks.len() { 6 } else { 7 })
+    }
+
+    /// Gives a block of this body, which is under this time rule, these flaws, and answers the fault: "For a block that breaks several, the
+    /// lowest number from 2 to 5 wins." A block that is missing whole, behind others, is no fault in 0x50.
+    pub fn flaw(
+        &mut self,
+        random: &mut Random,
+        rule: u64,
+        number: usize,
+        flaws: Flaws,
+    ) -> Option<Fault> {
+        let mut block = Block::sound(random, rule, flaws.n);
+        let mistimed = flaws.mistimed && (1..=3).contains(&rule);
+        if mistimed {
+            block.time = time_out_of_form(random, rule);
+        }
+        block.pad.fill(flaws.pad);
+        self.blocks[number] = block;
+        let size = self.block_at(number + 1) - self.block_at(number);
+        if flaws.missing > 0 {
+            self.blocks.truncate(number + 1);
+            self.cut = flaws.missing;
+        }
+        let rules = [
+            (flaws.missing == size, 7),
+            (flaws.missing > 0, 2),
+            (mistimed, 3),
+            (flaws.n == 0, 4),
+            (flaws.n % 2 == 1 && flaws.pad != 0, 5),
+        ];
+        let (_, reason) = rules.iter().find(|(is_broken, _)| *is_broken)?;
+        let at_end = *reason == 7 && self.kind == UART && number > 0;
+        Some(self.fault_in(number, *reason)).filter(|_| !at_end)
+    }
+
+    /// The fault of a 0x30 body of which the channel word, the count of blocks or an n of 0 may be at fault; nothing where it is sound.
+    /// The channel word is looked at first, then the blocks from the first.
+    pub fn message_fault(&self) -> Option<Fault> {
         let counter = self.channel_word & 0xFFFF;
         let (word_is_sound, wanted) = match self.channel_word >> 16 {
             0 => (counter >= 1, counter as usize),
@@ -101,13 +179,13 @@ impl Opened {
             _ => (false, 0),
         };
         if !word_is_sound {
-            return Some(0);
+            return Some(Fault { at: 0, reason: 1 });
         }
         let count = self.blocks.len();
         let empty = self.blocks.iter().position(|block| block.n == 0);
         match empty {
-            Some(number) if number < wanted => Some(self.block_at(number)),
-            _ if wanted != count => Some(self.block_at(wanted.min(count))),
+            Some(number) if number < wanted => Some(self.fault_in(number, 4)),
+            _ if wanted != count => Some(self.miscounted(wanted.min(count))),
             _ => None,
         }
     }

@@ -1,6 +1,6 @@
 //! A packet as its parts, each of which can be bent on its own; sums and lengths are right unless they are bent themselves.
 
-use crate::opened::{Opened, MESSAGE, UART};
+use crate::opened::{Fault, Opened, MESSAGE, UART};
 use crate::random::Random;
 
 /// "Defined types: [...] That is 35"
@@ -44,8 +44,8 @@ pub struct Recipe {
     pub reserved: u64,
     pub body: Vec<u8>,
     pub filler: [u8; 3],
-    /// Where a fault of layout stands in the body.
-    pub fault_at: usize,
+    /// The body's fault of layout, where it has one.
+    pub fault: Fault,
     /// How many of the packet's bytes are in the window, where not all.
     pub kept: Option<fn(usize) -> usize>,
     pub window: Option<BendWindow>,

@@ -1,15 +1,15 @@
 //! Runs of packets, sound and damaged, and packets with chance faults under right sums.
 
 use crate::causes::{causes, with_faults, Cause};
-use crate::opened::{Block, Opened, MESSAGE, UART};
+use crate::opened::{Block, Flaws, Opened, MESSAGE, UART};
 use crate::random::Random;
-use crate::recipe::{Recipe, CASE_L, TYPES};
+use crate::recipe::{some_rule, Recipe, CASE_L, TYPES};
 
 /// A packet with chance values in some of its parts, all sums right.
 pub fn chance_recipe(random: &mut Random) -> Recipe {
     let mut recipe = Recipe::any(random);
     let odds = random.choose(&[2, 6, 12]);
-    for part in 0..11 {
+    for part in 0..12 {
         if random.one_in(odds) {
             bend_by_chance(&mut recipe, random, part);
         }
@@ -30,8 +30,24 @@ fn bend_by_chance(recipe: &mut Recipe, random: &mut Random, part: u64) {
         7 => recipe.data_length = Some(chance_length(random, recipe.body.len() as u64)),
         8 => recipe.reserved = random.choose(&[0, 0, 1, 0x100]),
         9 => recipe.filler[random.index(3)] = random.bits() as u8,
-        _ => recipe.body = chance_body(random, &recipe.body),
+        10 => recipe.body = chance_body(random, &recipe.body),
+        _ if recipe.kind == MESSAGE || recipe.kind == UART => {
+            recipe.body = flawed_body(random, recipe.kind, recipe.flags);
+        }
+        _ => {}
     }
+}
+
+/// An opened body of which one or two blocks have flaws.
+fn flawed_body(random: &mut Random, kind: u64, flags: u64) -> Vec<u8> {
+    let rule = some_rule(random, kind, flags);
+    let count = 1 + random.index(4);
+    let mut body = Opened::sound(random, kind, rule, count);
+    for _ in 0..1 + random.below(2) {
+        let (number, flaws) = (random.index(body.blocks.len()), Flaws::some(random));
+        body.flaw(random, rule, number, flaws);
+    }
+    body.bytes()
 }
 
 /// A length at, near or far from the right one.
