@@ -76,6 +76,7 @@ fn refusal(refusal: same::Refusal) -> raw::Refusal {
         number: u64::from(refusal.number),
         place: refusal.place as u64,
         room: refusal.room as u64,
+        reason: u64::from(refusal.reason),
     }
 }
 

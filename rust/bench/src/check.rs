@@ -6,11 +6,13 @@ use crate::same;
 use ch11::{raw, Reason};
 use std::sync::atomic::{AtomicU32, Ordering};
 
-/// The refusals that came up, a bit for each number.
+/// The refusals that came up, and the reasons of 15, a bit for each number.
 static SEEN: AtomicU32 = AtomicU32::new(0);
+static REASONS_SEEN: AtomicU32 = AtomicU32::new(0);
 
-/// The longest packet that is checked with each of its bytes spoilt.
+/// The longest packet that is checked with each of its bytes spoilt, and with each two of its body.
 const SPOILT: usize = 2_048;
+const SPOILT_TWICE: usize = 64;
 
 /// What stands in lists and outputs beforehand.
 const UNTOUCHED: u8 = 0xA5;
@@ -27,20 +29,28 @@ pub fn check(input: &Input) {
     if first <= SPOILT {
         check_spoilt(input.call, &bytes[..first]);
     }
+    if first <= SPOILT_TWICE {
+        check_spoilt_twice(input.call, &bytes[..first]);
+    }
 }
 
-/// Ends the run unless each refusal that has a name came up in the checks before.
+/// Ends the run unless each refusal that has a name, and each of the seven reasons, came up in the checks before.
 pub fn all_refusals_seen() {
     let seen = SEEN.load(Ordering::Relaxed);
     let has_name = |number: &u64| Reason::from_number(*number) != Reason::Other(*number);
     for number in (1..u32::BITS.into()).filter(has_name) {
         assert!(seen >> number & 1 == 1, "refusal {} came up", number);
     }
+    let seen = REASONS_SEEN.load(Ordering::Relaxed);
+    for reason in 1..=7 {
+        assert!(seen >> reason & 1 == 1, "reason {} came up", reason);
+    }
 }
 
-/// Notes the refusal of an answer that both sides gave.
+/// Notes the refusal of an answer that both sides gave, and its reason.
 fn note(refusal: &raw::Refusal) {
     SEEN.fetch_or(1 << refusal.number, Ordering::Relaxed);
+    REASONS_SEEN.fetch_or(1 << refusal.reason, Ordering::Relaxed);
 }
 
 /// Every packet of a recording; one that is the same as the packet before it is only read.
@@ -81,6 +91,23 @@ fn check_spoilt(call: Call, packet: &[u8]) {
     }
     if call == Call::WritePacket {
         compare_fields(packet);
+    }
+}
+
+/// Each two bytes of the body spoilt, with sums put right: blocks that break several rules, and several blocks at fault. 2 and 5, the
+/// lengths of the messages, make a length of 0.
+fn check_spoilt_twice(call: Call, packet: &[u8]) {
+    let end = body_at(packet) + body_in(packet).len();
+    for first in body_at(packet)..end {
+        for second in first + 1..end {
+            for (bits, others) in [(2, 0xFF), (0xFF, 2), (5, 0xFF), (0xFF, 5), (0xFF, 0xFF)] {
+                let mut spoilt = packet.to_vec();
+                spoilt[first] ^= bits;
+                spoilt[second] ^= others;
+                put_sums_right(&mut spoilt);
+                compare(call, &spoilt, 0, packet.len());
+            }
+        }
     }
 }
 

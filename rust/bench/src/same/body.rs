@@ -23,11 +23,22 @@ pub struct Message {
     pub start: usize,
 }
 
-/// The number of messages of a body of an opened type, or the place of the fault in the body.
+/// What the walk over a body comes to: reason 0 and the number of messages, or the reason of the first fault and its place in the body.
+pub struct Walked {
+    pub reason: u8,
+    pub number: usize,
+}
+
+/// The walk over a body of an opened type.
 #[cfg_attr(feature = "inlined", inline(always))]
-pub fn walk_body(body: &[u8], kind: u8, flags: u8) -> Result<usize, usize> {
-    let shape = open_body(body, kind).ok_or(0_usize)?;
-    count_blocks(body, shape, TimeRule::of_messages(flags))
+pub fn walk_body(body: &[u8], kind: u8, flags: u8) -> Walked {
+    match open_body(body, kind) {
+        Some(shape) => count_blocks(body, shape, TimeRule::of_messages(flags)),
+        None => Walked {
+            reason: 1,
+            number: 0,
+        },
+    }
 }
 
 /// The messages of a body that passed `walk_body`; none in a type that isn't opened.
@@ -91,22 +102,34 @@ fn uart_shape(word: u32) -> Option<Shape> {
     })
 }
 
-/// The number of blocks behind the channel word, or the place of the first fault.
-fn count_blocks(body: &[u8], shape: Shape, rule: TimeRule) -> Result<usize, usize> {
+/// The number of blocks behind the channel word, or the first fault.
+fn count_blocks(body: &[u8], shape: Shape, rule: TimeRule) -> Walked {
     let most = shape.count.unwrap_or(usize::MAX);
     let mut rest = &body[4..];
     let mut blocks = 0;
     while blocks < most {
-        rest = behind_block(rest, shape.stamped, rule).ok_or(body.len() - rest.len())?;
+        rest = match behind_block(rest, shape.stamped, rule) {
+            Some(behind) => behind,
+            None => {
+                let number = body.len() - rest.len();
+                let reason = broken_rule(&body[number..], shape.stamped, rule);
+                return Walked { reason, number };
+            }
+        };
         blocks += 1;
         if rest.is_empty() {
             break;
         }
     }
     if rest.is_empty() && (blocks == most || shape.count.is_none()) {
-        Ok(blocks)
-    } else {
-        Err(body.len() - rest.len())
+        return Walked {
+            reason: 0,
+            number: blocks,
+        };
+    }
+    Walked {
+        reason: if rest.is_empty() { 7 } else { 6 },
+        number: body.len() - rest.len(),
     }
 }
 
@@ -123,6 +146,20 @@ fn behind_block(block: &[u8], stamped: bool, rule: TimeRule) -> Option<&[u8]> {
     match behind.split_first() {
         Some((0, next)) => Some(next),
         _ => None,
+    }
+}
+
+/// Why the block at the first byte breaks the layout: 7 where there is none, else the lowest of 2 to 5. A second look, which a sound body
+/// does without.
+#[cold]
+fn broken_rule(block: &[u8], stamped: bool, rule: TimeRule) -> u8 {
+    match block_head(block, stamped) {
+        None if block.is_empty() => 7,
+        None => 2,
+        Some((head, bytes)) if bytes.len() < head.length + head.length % 2 => 2,
+        Some((head, _)) if !rule.admits(head.time) => 3,
+        Some((head, _)) if head.length == 0 => 4,
+        Some(_) => 5,
     }
 }
 

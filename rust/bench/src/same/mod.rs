@@ -1,4 +1,5 @@
-//! The library's method in plain safe Rust: the same tests in the same order, nothing kept and nothing allocated.
+//! The library's method in plain safe Rust: the same tests in the same order, nothing kept and nothing allocated; only a block at fault is
+//! looked at again, to name the rule that it breaks, which costs a sound one nothing.
 //! Its five calls are not inlined into their callers, as the library's are not. What else is inlined the compiler chooses, as for the
 //! library; with the feature `inlined` the tests that the calls share are forced into each.
 mod body;
@@ -13,12 +14,13 @@ use rules::has_secondary;
 use units::{read16, read32, read48, read64};
 pub use write::write_packet;
 
-/// A refusal's number, its place counted from the buffer's first byte, and the room needed (16; otherwise 0).
+/// A refusal's number, its place counted from the buffer's first byte, the room needed (16; otherwise 0), and the reason (15; otherwise 0).
 #[derive(Clone, Copy)]
 pub struct Refusal {
     pub number: u8,
     pub place: usize,
     pub room: usize,
+    pub reason: u8,
 }
 
 /// Where a part of a packet stands in the buffer, and how many bytes it has.
@@ -177,7 +179,19 @@ fn check_messages(window: &[u8], start: usize) -> Result<usize, Refusal> {
     }
     let layout = measure(window);
     let body = &window[layout.body..layout.filler];
-    walk_body(body, kind, window[14]).map_err(|place| refuse(15, start + layout.body + place))
+    let walked = walk_body(body, kind, window[14]);
+    if walked.reason != 0 {
+        return Err(fault(walked.reason, start + layout.body + walked.number));
+    }
+    Ok(walked.number)
+}
+
+/// 15, for this reason.
+fn fault(reason: u8, place: usize) -> Refusal {
+    Refusal {
+        reason,
+        ..refuse(15, place)
+    }
 }
 
 fn refuse(number: u8, place: usize) -> Refusal {
@@ -185,6 +199,7 @@ fn refuse(number: u8, place: usize) -> Refusal {
         number,
         place,
         room: 0,
+        reason: 0,
     }
 }
 
