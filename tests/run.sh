@@ -1,7 +1,7 @@
 #!/usr/bin/env bash
 # The tests beside rt's: the C interface from C and from Rust, the stack, the samples, the comparison with the second program, and the
 # benchmark's instructions.
-# Usage: bash tests/run.sh [CALLS]: compares at least so many calls (150,000). Installs what it needs (Debian packages), and proves and
+# Usage: bash tests/run.sh [CALLS]: compares at least so many calls (165,000). Installs what it needs (Debian packages), and proves and
 # builds the library and the listing program first.
 set -euo pipefail
 cd "$(dirname "$0")/.."
@@ -61,7 +61,7 @@ done
 
 echo "Comparison with the second program: calls"
 x86_cargo build --release --quiet -p compare -p bench
-quietly $x86_runner "$x86_built/compare" "${1:-150000}"
+quietly $x86_runner "$x86_built/compare" "${1:-165000}"
 tail -1 "$log"
 echo "Benchmark: library and the same method in Rust agree on its inputs"
 quietly $x86_runner "$x86_built/bench" 1 'a trial'

@@ -3,7 +3,7 @@ use crate::as_raw;
 use crate::inputs::{Call, Input};
 use crate::library;
 use crate::same;
-use ch11::{raw, Reason};
+use ch11::{raw, Number, Reason};
 use std::sync::atomic::{AtomicU32, Ordering};
 
 /// The refusals that came up, and the reasons of 15, a bit for each number.
@@ -34,15 +34,16 @@ pub fn check(input: &Input) {
     }
 }
 
-/// Ends the run unless each refusal that has a name, and each of the seven reasons, came up in the checks before.
+/// Ends the run unless each refusal and each reason that has a name came up in the checks before.
 pub fn all_refusals_seen() {
     let seen = SEEN.load(Ordering::Relaxed);
-    let has_name = |number: &u64| Reason::from_number(*number) != Reason::Other(*number);
+    let has_name = |number: &u64| Number::from_value(*number) != Number::Other(*number);
     for number in (1..u32::BITS.into()).filter(has_name) {
         assert!(seen >> number & 1 == 1, "refusal {} came up", number);
     }
     let seen = REASONS_SEEN.load(Ordering::Relaxed);
-    for reason in 1..=7 {
+    let has_name = |reason: &u64| Reason::from_value(*reason) != Reason::Other(*reason);
+    for reason in (1..u32::BITS.into()).filter(has_name) {
         assert!(seen >> reason & 1 == 1, "reason {} came up", reason);
     }
 }
