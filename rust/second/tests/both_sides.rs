@@ -1,13 +1,10 @@
 //! Case L and the lines of "Both sides of the line", with the places of
 //! refusals and the lists.
 
-use second::*;
+mod common;
 
-const CASE_L: [u8; 40] = [
-    0x25, 0xEB, 0x01, 0x00, 0x28, 0x00, 0x00, 0x00, 0x0C, 0x00, 0x00, 0x00, 0x06, 0x00, 0x02, 0x50,
-    0x01, 0x00, 0x00, 0x00, 0x00, 0x00, 0x63, 0x3B, 0x00, 0x00, 0x00, 0x00, 0x03, 0x00, 0x00, 0x00,
-    0x41, 0x42, 0x43, 0x00, 0x00, 0x00, 0x87, 0x42,
-];
+use common::{by_hand, mend_header, CASE_L};
+use second::*;
 
 const LISTING_L: &str = "packet=0\nat=0\nlength=40\nchannel=1\ntype=80\nversion=6\nsequence=0\n\
 flags=2\nrtc=1\ntime=0\nbody=12\nfiller=2\nsum=17031\nmessages=1\npackets=1\nbytes=40\nanswer=0\n";
@@ -58,35 +55,6 @@ fn write(fields: &Fields, body: &[u8]) -> Vec<u8> {
     assert!(out[length..].iter().all(|byte| *byte == 0xAA));
     out.truncate(length);
     out
-}
-
-/// Puts the right header sum into a packet.
-fn mend_header(packet: &mut [u8]) {
-    let mut sum: u16 = 0;
-    for i in 0..11 {
-        sum = sum.wrapping_add(u16::from_le_bytes([packet[2 * i], packet[2 * i + 1]]));
-    }
-    packet[22..24].copy_from_slice(&sum.to_le_bytes());
-}
-
-/// A packet with these bytes as its body and no sum, written by hand.
-fn by_hand(kind: u8, flags: u8, body: &[u8]) -> Vec<u8> {
-    let mut packet = vec![0; 24];
-    packet[0] = 0x25;
-    packet[1] = 0xEB;
-    packet[2] = 1;
-    packet[8..12].copy_from_slice(&(body.len() as u32).to_le_bytes());
-    packet[12] = 6;
-    packet[14] = flags;
-    packet[15] = kind;
-    packet.extend_from_slice(body);
-    while packet.len() % 4 != 0 {
-        packet.push(0);
-    }
-    let length = packet.len() as u32;
-    packet[4..8].copy_from_slice(&length.to_le_bytes());
-    mend_header(&mut packet);
-    packet
 }
 
 #[test]

@@ -3,13 +3,10 @@
 //! blocks, 7 body ends where a block must begin". Both sides of each line, for
 //! every call that can give 15; and all others have reason 0.
 
-use second::*;
+mod common;
 
-const CASE_L: [u8; 40] = [
-    0x25, 0xEB, 0x01, 0x00, 0x28, 0x00, 0x00, 0x00, 0x0C, 0x00, 0x00, 0x00, 0x06, 0x00, 0x02, 0x50,
-    0x01, 0x00, 0x00, 0x00, 0x00, 0x00, 0x63, 0x3B, 0x00, 0x00, 0x00, 0x00, 0x03, 0x00, 0x00, 0x00,
-    0x41, 0x42, 0x43, 0x00, 0x00, 0x00, 0x87, 0x42,
-];
+use common::{body_at, by_hand, mend_header, CASE_L};
+use second::*;
 
 /// Channel words of 0x50, without time stamps and with them.
 const BARE: u32 = 0;
@@ -45,45 +42,6 @@ const TWO_BLOCKS: [(u8, u32, bool); 3] = [
     (0x50, BARE, false),
     (0x50, STAMPED, true),
 ];
-
-/// Puts the right header sum into a packet.
-fn mend_header(packet: &mut [u8]) {
-    let mut sum: u16 = 0;
-    for i in 0..11 {
-        sum = sum.wrapping_add(u16::from_le_bytes([packet[2 * i], packet[2 * i + 1]]));
-    }
-    packet[22..24].copy_from_slice(&sum.to_le_bytes());
-}
-
-/// A packet with these bytes as its body and no sum, written by hand. A
-/// secondary header is all zeros, which every time format allows.
-fn by_hand(kind: u8, flags: u8, body: &[u8]) -> Vec<u8> {
-    let mut packet = vec![0; body_at(flags)];
-    packet[0] = 0x25;
-    packet[1] = 0xEB;
-    packet[2] = 1;
-    packet[8..12].copy_from_slice(&(body.len() as u32).to_le_bytes());
-    packet[12] = 6;
-    packet[14] = flags;
-    packet[15] = kind;
-    packet.extend_from_slice(body);
-    while packet.len() % 4 != 0 {
-        packet.push(0);
-    }
-    let length = packet.len() as u32;
-    packet[4..8].copy_from_slice(&length.to_le_bytes());
-    mend_header(&mut packet);
-    packet
-}
-
-/// Where the body starts, counted from the packet's first byte.
-fn body_at(flags: u8) -> usize {
-    if flags & 0x80 != 0 {
-        36
-    } else {
-        24
-    }
-}
 
 /// What the writer is given for the same packet.
 fn fields(kind: u8, flags: u8) -> Fields {
