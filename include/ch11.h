@@ -70,18 +70,18 @@ enum {
     CH11_RANGE = 17          /* writer or builder input out of range, or no message of that number */
 };
 
-/* Reasons: which rule of its layout a body breaks at that place. The channel word is looked at first, then block by block; of a block that
- * breaks several rules the lowest number is given. More numbers may follow. A text as for a customer stands at each; a message and the
- * bytes around it are what the layout below calls a block. */
+/* Reasons: which rule of its layout a body breaks there. The channel word is looked at first, then block by block (a block is a message with
+ * the bytes around it; the layout stands further below); of a block that breaks several rules the lowest number is given. In quotation marks
+ * is what can be read to a customer. More numbers may follow. */
 enum {
-    CH11_REASON_NONE = 0,         /* no 15, so no reason */
+    CH11_REASON_NONE = 0,         /* any refusal but 15, or none */
     CH11_REASON_CHANNEL_WORD = 1, /* "The first four bytes of the packet's data, its channel word, are missing or not as the standard asks." */
     CH11_REASON_CUT_SHORT = 2,    /* "The packet's data ends in the middle of a message." In its time, ID word, n bytes or pad byte */
     CH11_REASON_TIME = 3,         /* "A message's time isn't in the form that the packet's flags announce." */
     CH11_REASON_LENGTH_ZERO = 4,  /* "A message is announced with a length of zero." n is 0 */
     CH11_REASON_PAD = 5,          /* "The byte that pads a message of odd length isn't zero." */
     CH11_REASON_LEFT_OVER = 6,    /* "There are more bytes behind the last message that the channel word announces." 0x30 alone */
-    CH11_REASON_MISSING = 7       /* "The packet's data ends where another message must begin." */
+    CH11_REASON_MISSING = 7       /* "The packet's data ends where a message must begin." */
 };
 
 struct ch11_refusal {

@@ -92,8 +92,8 @@ headAt form bs at =
 abbrev pub blockEnd : Message → ℕ
 blockEnd m = paddedEnd (m .start) (m .length)
 
--- a block at `at` whose head is whole, with the reason: 2 cut short, 3 time (0 where none is stored, which is in form under every rule),
--- 4 length zero, 5 pad not zero
+-- a block at `at` whose head is whole, or the reason why it is none: 2, cut short; 3, time (0 where none is stored, which is in form under every rule);
+-- 4, length zero; 5, pad not zero
 unfoldable pub judge : TimeRule → List ℕ → ℕ → Message → Block
 judge rule bs at m =
     pick (ltb (length bs) (blockEnd m)) (Broken (fault at 2))
@@ -102,7 +102,7 @@ judge rule bs at m =
     (pick (not (zeros (part bs (m .start + m .length) (m .length % 2)))) (Broken (fault at 5))
     (Found m (blockEnd m)))))
 
--- the block at `at`: 7 the body ends there, or 2 cut short in its head, or judged
+-- the block at `at`. Reason 7: the body ends there; reason 2: cut short in its head; else judged
 unfoldable pub blockAt : Shape → List ℕ → ℕ → Block
 blockAt sh bs at =
     pick (leb (length bs) at) (Broken (fault at 7))
@@ -124,7 +124,7 @@ spot sh bs (suc k) = behind (blockAt sh bs (spot sh bs k))
 unfoldable pub stopAt : Shape → ℕ → ℕ → ℕ → Bool
 stopAt sh len k at = pick (sh .counted) (leb (sh .count) k) (ltb 0 k && leb len at)
 
--- no more are to come: the body ends there, or 6 bytes are left over
+-- no more are to come: the body ends there; reason 6: bytes are left over
 unfoldable pub ending : ℕ → ℕ → ℕ → Checked
 ending len k at = pick (eqb at len) (Counted k) (Faulty (fault at 6))
 

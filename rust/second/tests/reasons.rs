@@ -569,11 +569,11 @@ fn carried_types_have_no_reason() {
             _ => 4,
         };
         refused(0x30, RELATIVE, bytes, at, reason);
-        let carried = by_hand(0x38, RELATIVE, bytes);
+        let carried = by_hand(0x40, RELATIVE, bytes);
         assert!(read_packet(&carried, 0, carried.len()).is_ok());
         let recording = read_recording(&carried, 0, carried.len());
         assert_eq!(recording.refusal, refusal(0, 0, 0));
-        let written = write_packet(&fields(0x38, RELATIVE), bytes, &mut [0; 64]);
+        let written = write_packet(&fields(0x40, RELATIVE), bytes, &mut [0; 64]);
         assert_eq!(written, Ok(carried.len() as u64));
     }
 }
