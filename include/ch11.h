@@ -10,9 +10,8 @@
  * than by a refusal. It takes at most 1 KiB of stack, and the library needs no other, not even a C library.
  *
  * Every result is written into a struct of 64-bit numbers, which needs no filling beforehand, save the builder's. Each call returns the
- * refusal's number, 0 for none; the struct begins with the same number. On a refusal all other results are 0, but for the place, for
- * the room that 16 and the reason that 15 gives, for the recording's two numbers and for the builder's state; lists, buffers and outputs
- * are then as they were.
+ * refusal's number, 0 for none; the struct begins with the same number. On a refusal all other results are 0, but for the place, the
+ * room (of 16), the reason (of 15), the recording's two numbers and the builder's state; lists, buffers and outputs are then as they were.
  *
  * A length may be 0. Pointers must not be null, not even then; they must be aligned for their type and good for the length given, a
  * struct's for the struct. What a call may write to must not overlap anything else that the same call is lent.
@@ -70,18 +69,20 @@ enum {
     CH11_RANGE = 17          /* writer or builder input out of range, or no message of that number */
 };
 
-/* Reasons: which rule of its layout a body breaks there. The channel word is looked at first, then block by block (a block is a message with
- * the bytes around it; the layout stands further below); of a block that breaks several rules the lowest number is given. In quotation marks
- * is what can be read to a customer. More numbers may follow. */
+/* Reasons of 15: which rule of its layout a body breaks at that place. The channel word is looked at first, then block by block (a block
+ * is a message with the bytes around it; the layout stands further below); of a block that breaks several rules the lowest number is
+ * given. In quotation marks is what can be read to a customer. More numbers may follow. */
 enum {
-    CH11_REASON_NONE = 0,         /* any refusal but 15, or none */
-    CH11_REASON_CHANNEL_WORD = 1, /* "The first four bytes of the packet's data, its channel word, are missing or not as the standard asks." */
+    CH11_REASON_NONE = 0,         /* with any other refusal, and without one */
+    CH11_REASON_CHANNEL_WORD = 1, /* "The first four bytes of the packet's data, its channel word, are not all there, or not as they
+                                     must be." */
     CH11_REASON_CUT_SHORT = 2,    /* "The packet's data ends in the middle of a message." In its time, ID word, n bytes or pad byte */
-    CH11_REASON_TIME = 3,         /* "A message's time isn't in the form that the packet's flags announce." */
+    CH11_REASON_TIME = 3,         /* "A message's time isn't in the form that the packet's flags announce." From ch11_add: that the
+                                     body's time rule asks for */
     CH11_REASON_LENGTH_ZERO = 4,  /* "A message is announced with a length of zero." n is 0 */
     CH11_REASON_PAD = 5,          /* "The byte that pads a message of odd length isn't zero." */
     CH11_REASON_LEFT_OVER = 6,    /* "There are more bytes behind the last message that the channel word announces." 0x30 alone */
-    CH11_REASON_MISSING = 7       /* "The packet's data ends where a message must begin." */
+    CH11_REASON_MISSING = 7       /* "The packet's data ends where a message must begin." From ch11_close: no block was added */
 };
 
 struct ch11_refusal {

@@ -1,6 +1,6 @@
 /* What the calls leave in the structs of ch11.h, field by field. STRUCT names a struct and its cases. Below it stands a line for each field,
  * in the struct's order, with its value in each case: WORD for a number, HOLDS for a struct, of which the value is one of its own cases.
- * tests/c/case_l.c reads this table as macros, rust/ch11/tests as text. The numbers were worked out by hand from the rules of document 01,
+ * tests/c/case_l.c reads this table as macros, rust/ch11/tests as text. The numbers were worked out by hand from the rules of documents 01 and 02,
  * not taken from the library.
  *
  * L and M are the packets of those tests, L at the first byte of its buffer, M at 100 of a recording. Behind an L at the first byte of another

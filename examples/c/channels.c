@@ -62,8 +62,10 @@ int main(int argc, char **argv)
     struct ch11_refusal refusal = print_channels(buf, len, filled);
     free(buf);
     if (refusal.number != CH11_NONE) {
-        fprintf(stderr, "refused with %llu at byte %llu, reason %llu\n", (unsigned long long)refusal.number,
-                (unsigned long long)refusal.place, (unsigned long long)refusal.reason);
+        fprintf(stderr, "refused with %llu at byte %llu\n", (unsigned long long)refusal.number, (unsigned long long)refusal.place);
+        if (refusal.reason != CH11_REASON_NONE) {
+            fprintf(stderr, "reason %llu\n", (unsigned long long)refusal.reason);
+        }
         return 1;
     }
     return 0;

@@ -4,7 +4,7 @@ use crate::raw;
 use std::error::Error;
 use std::fmt;
 
-/// Which refusal it is, by its number in document 01's table. The tests are made in this order, save
+/// Which refusal it is, by its number, as in `include/ch11.h`. The tests are made in this order, save
 /// where a call says otherwise, and the first that applies is given.
 #[derive(Clone, Copy, Debug, PartialEq, Eq, Hash)]
 #[non_exhaustive]
@@ -142,7 +142,8 @@ pub struct Refusal {
     /// Which refusal.
     pub number: Number,
     /// Where, counted from the buffer's first byte: the start of the packet, or for
-    /// [`Number::Layout`] the channel word or block at fault. The writer and the builder give 0.
+    /// [`Number::Layout`] the channel word, the first byte of the block at fault or of the bytes
+    /// left over, or where a missing block should begin. The writer and the builder give 0.
     pub place: usize,
     /// With [`Number::Room`] the room needed: messages for a list, otherwise the bytes of the whole
     /// packet or body. Else 0.
