@@ -1,4 +1,4 @@
--- What the calls say, from what the functions below them say.
+-- What is said of a packet whose frame is right, from what the functions below say.
 use mathlib.Core.Path.{_≡_, refl, sym, ap, _∙_}
 use mathlib.Core.List.{List}
 use mathlib.Core.Bool.{Bool, true, false}
@@ -27,103 +27,16 @@ use Rattle.body.specs.declared.Listed as body-listed
 use Rattle.body.specs.declared.Listed.the-variants.{Count, Unlisted as Body·Unlisted, NoRoom}
 use Rattle.frame.specs.Header.{packetLength, dataLength, flagsIn, kindIn, headerSumIn, sumLength, secondaryLength, bodyAt, bodyIn, fieldsIn}
 use Rattle.frame.specs.Rules.{messageRule}
-use Rattle.frame.specs.Table.{first, frameLines}
 use Rattle.frame.specs.inner.Lengths.{Sound, Measured}
 use Rattle.frame.specs.declared.Layout.{Layout}
 use Rattle.frame.specs.declared.Fields.{Fields}
-use Rattle.frame.proofs.Tables.{stands, passes, holds}
-use Rattle.frame.proofs.Frames.{frame-sound}
-use Rattle.packet.specs.Read.{inside, window, outerLines, outerRefusal, partAt, packetIn, bodyChecked, bodyAnswer, readPacket}
-use Rattle.packet.specs.inner.Passes.{passOf}
-use Rattle.packet.specs.Messages.{countOf, messageCount, kthMessage, listAnswer, listPacket, listAfter, starts, lengths, messageAnswer, messagePacket}
-use Rattle.packet.specs.declared.Packet.{Packet}
-use Rattle.packet.specs.declared.PacketRead.{PacketRead}
-use Rattle.packet.specs.declared.PacketRead.the-variants.{Accepted, Refused}
+use Rattle.packet.specs.Read.{partAt, packetIn, bodyChecked, passBody}
+use Rattle.packet.specs.Messages.{countOf, messageCount, kthMessage, listAnswer, listAfter, starts, lengths, messageAnswer}
 use Rattle.packet.specs.declared.PacketPass.the-variants.{Passed, Barred}
 use Rattle.packet.specs.declared.PacketList.{PacketList}
 use Rattle.packet.specs.declared.PacketList.the-variants.{Listed, Unlisted}
 use Rattle.packet.specs.declared.PacketMessage.{PacketMessage}
 use Rattle.packet.specs.declared.PacketMessage.the-variants.{Given, Withheld}
-
--- ---- 1 and the frame's lines
-
-module _ (buf : List ℕ) (s e : ℕ) where
-  pub outer-outside : inside buf s e ≡ false → 1 ≡ outerRefusal buf s e
-  unfolding outerRefusal outerLines
-  outer-outside h = stands 1 (frameLines (window buf s e)) h
-
-  pub outer-inside : (n : ℕ) → inside buf s e ≡ true → n ≡ first (frameLines (window buf s e)) → n ≡ outerRefusal buf s e
-  unfolding outerRefusal outerLines
-  outer-inside n h q = passes 1 n (frameLines (window buf s e)) h q
-
--- the window's test, taken apart
-pub inside-says : (buf : List ℕ) (s e : ℕ) → inside buf s e ≡ true → (s ≤ e) × (e ≤ length buf)
-unfolding inside
-inside-says buf s e h = let i = and-true (leb s e) (leb e (length buf)) h in (leb-true s e (i .0), leb-true e (length buf) (i .1))
-
-pub inside-same : (a b : List ℕ) (s e : ℕ) → e ≤ length a → e ≤ length b → inside a s e ≡ inside b s e
-unfolding inside
-inside-same a b s e h g = rw (le-leb e (length a) h, le-leb e (length b) g)
-
-pub inside-made : (buf : List ℕ) (s e : ℕ) → s ≤ e → e ≤ length buf → inside buf s e ≡ true
-unfolding inside
-inside-made buf s e h g = rw (le-leb s e h, le-leb e (length buf) g)
-
--- a window that they let through
-pub record LetThrough (buf : List ℕ) (s e : ℕ) : Type 0 where
-  pub ordered : s ≤ e
-  pub within : e ≤ length buf
-  pub framed : first (frameLines (window buf s e)) ≡ 0
-  pub sound : Sound (window buf s e)
-  pub reach : s + length (window buf s e) ≡ e
-
-pub outer-open : (buf : List ℕ) (s e : ℕ) → outerRefusal buf s e ≡ 0 → LetThrough buf s e
-unfolding outerRefusal outerLines
-outer-open buf s e z =
-    let w = window buf s e in
-    let l = holds 1 (inside buf s e) (frameLines w) tt z in
-    let i = inside-says buf s e (l .0) in
-    record {
-      ordered = i .0;
-      within = i .1;
-      framed = l .1;
-      sound = frame-sound w (l .1);
-      reach = omega (arith, length-part buf s (e - s) (omega arith));
-    }
-
--- ---- the three readers behind them; n is what the code found
-
-module _ (buf : List ℕ) (s e n : ℕ) (is : n ≡ outerRefusal buf s e) where
-  pub opened : n ≡ 0 → LetThrough buf s e
-  opened z = outer-open buf s e (sym is ∙ z)
-
-  pub read-refused : (r : Refusal) → (n ≡ 0 → ⊥) → r ≡ refused n s → Refused r ≡ readPacket buf s e
-  unfolding readPacket
-  read-refused r other q = rw (q, ← is, ne-eqb n 0 other)
-
-  pub read-on : (x : PacketRead) → n ≡ 0 → x ≡ bodyAnswer (bodyChecked (window buf s e)) (window buf s e) s → x ≡ readPacket buf s e
-  unfolding readPacket
-  read-on x z q = let e₀ : outerRefusal buf s e ≡ 0 = sym is ∙ z in q ∙ rw e₀
-
-  pub list-refused : (m k : ℕ) (r : Refusal) → (n ≡ 0 → ⊥) → r ≡ refused n s → Unlisted r ≡ listPacket buf s e m k
-  unfolding listPacket listAnswer
-  list-refused m k r other q = rw (← read-refused r other q)
-
-  pub list-on : (m k : ℕ) (x : PacketList) → n ≡ 0
-      → x ≡ listAnswer (bodyAnswer (bodyChecked (window buf s e)) (window buf s e) s) s (messageCount (window buf s e)) (min m k)
-      → x ≡ listPacket buf s e m k
-  unfolding listPacket
-  list-on m k x z q = q ∙ ap (λ (p : PacketRead). listAnswer p s (messageCount (window buf s e)) (min m k)) (read-on _ z refl)
-
-  pub message-refused : (k : ℕ) (r : Refusal) → (n ≡ 0 → ⊥) → r ≡ refused n s → Withheld r ≡ messagePacket buf s e k
-  unfolding messagePacket messageAnswer
-  message-refused k r other q = rw (← read-refused r other q)
-
-  pub message-on : (k : ℕ) (x : PacketMessage) → n ≡ 0
-      → x ≡ messageAnswer (bodyAnswer (bodyChecked (window buf s e)) (window buf s e) s) s (messageCount (window buf s e)) k (kthMessage (window buf s e) k)
-      → x ≡ messagePacket buf s e k
-  unfolding messagePacket
-  message-on k x z q = q ∙ ap (λ (p : PacketRead). messageAnswer p s (messageCount (window buf s e)) k (kthMessage (window buf s e) k)) (read-on _ z refl)
 
 -- a refused call leaves a list as it was
 pub list-kept : (r : Refusal) (entries : ℕ → ℕ) (old : List ℕ) → old ≡ listAfter (Unlisted r) entries old
@@ -154,42 +67,25 @@ module _ (w : List ℕ) (l : Layout) (m : Measured w l) (rule : TimeRule) (ruled
       let p = faulty-place (kindIn w) rule (part w (l .body) (l .filler - l .body)) f e in
       omega (arith, p, body-length s, m .body, s .parts, s .there)
 
--- ---- the answer to a reader of many packets
+-- ---- 15, or the packet passes
 
 module _ (w : List ℕ) (at : ℕ) where
   -- a type that isn't opened
-  pub pass-carried : (p : ℕ) → p ≡ packetLength w → opens (kindIn w) ≡ false → Passed p ≡ passOf (bodyAnswer (bodyChecked w) w at)
-  unfolding fieldsIn bodyAnswer bodyChecked checkBody openBody packetIn
+  pub pass-carried : (p : ℕ) → p ≡ packetLength w → opens (kindIn w) ≡ false → Passed p ≡ passBody (bodyChecked w) w at
+  unfolding fieldsIn passBody bodyChecked checkBody openBody
   pass-carried p q e = rw (e, q)
 
-  pub pass-counted : (n p : ℕ) → bodyChecked w ≡ Counted n → p ≡ packetLength w → Passed p ≡ passOf (bodyAnswer (bodyChecked w) w at)
-  unfolding bodyAnswer packetIn
+  pub pass-counted : (n p : ℕ) → bodyChecked w ≡ Counted n → p ≡ packetLength w → Passed p ≡ passBody (bodyChecked w) w at
+  unfolding passBody
   pass-counted n p e q = rw (e, q)
 
   pub pass-faulty : (f r : Refusal) (body : ℕ) → bodyChecked w ≡ Faulty f → body ≡ bodyAt (flagsIn w) → r ≡ moved (at + body) f
-      → Barred r ≡ passOf (bodyAnswer (bodyChecked w) w at)
-  unfolding bodyAnswer
+      → Barred r ≡ passBody (bodyChecked w) w at
+  unfolding passBody
   pass-faulty f r body e b q = rw (e, q, b)
 
-  pub passed-framed : (n : ℕ) (p : Packet) → Passed n ≡ passOf (bodyAnswer (bodyChecked w) w at) → p ≡ packetIn w at → Accepted p ≡ bodyAnswer (bodyChecked w) w at
-  unfolding bodyAnswer
-  passed-framed n p e q = go (bodyChecked w) e
-    where
-      go : (c : Checked) → Passed n ≡ passOf (bodyAnswer c w at) → Accepted p ≡ bodyAnswer c w at
-      go (Counted k) _ = ap Accepted q
-      go (Faulty f) e = let z : _≡_ {A = ℕ} 0 1 = cc in absurd (omega arith)
-
--- it refuses as the reader does, and passes what that accepts, by its length
-pub barred-is : (x : PacketRead) (r : Refusal) → Barred r ≡ passOf x → Refused r ≡ x
-barred-is (Accepted p) r e = let z : _≡_ {A = ℕ} 0 1 = cc in absurd (omega arith)
-barred-is (Refused q) r e = cc
-
-pub passed-is : (x : PacketRead) (n : ℕ) → Passed n ≡ passOf x → (p : Packet) × (x ≡ Accepted p) × (n ≡ p .length)
-passed-is (Accepted p) n e = (p, refl, cc)
-passed-is (Refused r) n e = let z : _≡_ {A = ℕ} 0 1 = cc in absurd (omega arith)
-
 -- the packet's record
-pub packet-is : (w : List ℕ) (at : ℕ) (l : Layout) (f : Fields) (p d h x : ℕ) → Sound w → Measured w l → f ≡ fieldsIn w → p ≡ packetLength w → d ≡ dataLength w
+pub packet-is : (w : List ℕ) (at base : ℕ) (l : Layout) (f : Fields) (p d h x : ℕ) → Sound w → Measured w l → f ≡ fieldsIn w → p ≡ packetLength w → d ≡ dataLength w
     → h ≡ headerSumIn w → x ≡ field w (l .sum) (sumLength (flagsIn w))
     → record {
       fields = f;
@@ -197,15 +93,16 @@ pub packet-is : (w : List ℕ) (at : ℕ) (l : Layout) (f : Fields) (p d h x : �
       «data_length» = d;
       «header_sum» = h;
       «data_sum» = x;
+      «recording_place» = base;
       header = partAt at 24;
       secondary = partAt (at + 24) (l .body - 24);
       body = partAt (at + l .body) (l .filler - l .body);
       filler = partAt (at + l .filler) (l .sum - l .filler);
       sum = partAt (at + l .sum) (p - l .sum);
     }
-    ≡ packetIn w at
+    ≡ packetIn w at base
 unfolding packetIn
-packet-is w at l f p d h x s m ef ep ed eh ex =
+packet-is w at base l f p d h x s m ef ep ed eh ex =
     let e₁ : l .body - 24 ≡ secondaryLength (flagsIn w) = omega (arith, m .body) in
     let e₂ : l .filler - l .body ≡ dataLength w = omega (arith, m .filler, m .body) in
     let e₃ : p - l .sum ≡ sumLength (flagsIn w) = omega (arith, m .sum, s .parts) in
@@ -215,6 +112,7 @@ packet-is w at l f p d h x s m ef ep ed eh ex =
       «data_length» = ed i;
       «header_sum» = eh i;
       «data_sum» = (ex ∙ ap (λ (n : ℕ). field w n (sumLength (flagsIn w))) (m .sum)) i;
+      «recording_place» = base;
       header = partAt at 24;
       secondary = partAt (at + 24) (e₁ i);
       body = partAt (at + m .body i) (e₂ i);
@@ -238,8 +136,8 @@ room-same at body m n = go (decLe n m)
     go (no h) = rw (lt-leb n m (omega arith), lt-ltb m n (omega arith))
 
 pub listed-is : (w : List ℕ) (at len₁ len₂ : ℕ) (c : Checked)
-    → fromListed at (bodyAt (flagsIn w)) (listCounted len₁ len₂ c) ≡ listAnswer (bodyAnswer c w at) at (countOf c) (min len₁ len₂)
-unfolding listCounted listAnswer bodyAnswer
+    → fromListed at (bodyAt (flagsIn w)) (listCounted len₁ len₂ c) ≡ listAnswer (passBody c w at) at (countOf c) (min len₁ len₂)
+unfolding listCounted listAnswer passBody
 listed-is w at len₁ len₂ (Counted n) = room-same at (bodyAt (flagsIn w)) (min len₁ len₂) n
 listed-is w at len₁ len₂ (Faulty f) = refl
 
@@ -253,7 +151,7 @@ module _ (w : List ℕ) (at : ℕ) (l : Layout) (m : Measured w l) (rule : TimeR
   abbrev bytes : List ℕ
   bytes = part w (l .body) (l .filler - l .body)
 
-  list-answer : (len₁ len₂ : ℕ) → fromListed at (l .body) (listOf (kindIn w) rule bytes len₁ len₂) ≡ listAnswer (bodyAnswer (bodyChecked w) w at) at (messageCount w) (min len₁ len₂)
+  list-answer : (len₁ len₂ : ℕ) → fromListed at (l .body) (listOf (kindIn w) rule bytes len₁ len₂) ≡ listAnswer (passBody (bodyChecked w) w at) at (messageCount w) (min len₁ len₂)
   unfolding listOf messageCount
   list-answer len₁ len₂ = rw (checked-is w l m rule ruled, m .body) (listed-is w at len₁ len₂ (bodyChecked w))
 
@@ -270,7 +168,7 @@ module _ (w : List ℕ) (at : ℕ) (l : Layout) (m : Measured w l) (rule : TimeR
       → x ≡ listOf (kindIn w) rule bytes len₁ len₂
       → news ≡ filledAfter x (startsOf (l .body) (messageIn (kindIn w) rule bytes)) olds
       → newl ≡ filledAfter x (lengthsOf (messageIn (kindIn w) rule bytes)) oldl
-      → (a ≡ listAnswer (bodyAnswer (bodyChecked w) w at) at (messageCount w) (min len₁ len₂))
+      → (a ≡ listAnswer (passBody (bodyChecked w) w at) at (messageCount w) (min len₁ len₂))
       × (news ≡ listAfter a (starts w) olds)
       × (newl ≡ listAfter a (lengths w) oldl)
   list-says len₁ len₂ x y a olds news oldl newl given made says lists listl =
@@ -311,8 +209,8 @@ number-same at body k n m = go (decLe n k)
     go (no h) = rw (lt-leb n k (omega arith), lt-ltb k n (omega arith))
 
 pub picked-is : (w : List ℕ) (at k : ℕ) (m : Message) (c : Checked)
-    → fromPicked at (bodyAt (flagsIn w)) (pickCounted k m c) ≡ messageAnswer (bodyAnswer c w at) at (countOf c) k (inPacket (bodyAt (flagsIn w)) m)
-unfolding pickCounted messageAnswer bodyAnswer
+    → fromPicked at (bodyAt (flagsIn w)) (pickCounted k m c) ≡ messageAnswer (passBody c w at) at (countOf c) k (inPacket (bodyAt (flagsIn w)) m)
+unfolding pickCounted messageAnswer passBody
 picked-is w at k m (Counted n) = number-same at (bodyAt (flagsIn w)) k n m
 picked-is w at k m (Faulty f) = refl
 
@@ -320,7 +218,7 @@ module _ (w : List ℕ) (at : ℕ) (l : Layout) (m : Measured w l) (rule : TimeR
   abbrev whole : List ℕ
   whole = part w (l .body) (l .filler - l .body)
 
-  message-answer : fromPicked at (l .body) (messageAt (kindIn w) rule whole k) ≡ messageAnswer (bodyAnswer (bodyChecked w) w at) at (messageCount w) k (kthMessage w k)
+  message-answer : fromPicked at (l .body) (messageAt (kindIn w) rule whole k) ≡ messageAnswer (passBody (bodyChecked w) w at) at (messageCount w) k (kthMessage w k)
   unfolding messageAt messageCount kthMessage
   message-answer =
       rw (checked-is w l m rule ruled, message-is w l m rule ruled k, m .body)
@@ -328,7 +226,7 @@ module _ (w : List ℕ) (at : ℕ) (l : Layout) (m : Measured w l) (rule : TimeR
 
   -- x is what the body's call said, in the case y; a is what the code makes of it
   pub message-says : (x y : Picked) (a : PacketMessage) → x ≡ y → a ≡ fromPicked at (l .body) y → x ≡ messageAt (kindIn w) rule whole k
-      → a ≡ messageAnswer (bodyAnswer (bodyChecked w) w at) at (messageCount w) k (kthMessage w k)
+      → a ≡ messageAnswer (passBody (bodyChecked w) w at) at (messageCount w) k (kthMessage w k)
   message-says x y a given made says = made ∙ ap (fromPicked at (l .body)) (sym given ∙ says) ∙ message-answer
 
 pub unread-faulty : (kind : ℕ) (rule : TimeRule) (bs : List ℕ) (k : ℕ) (f : Refusal) → messageAt kind rule bs k ≡ Unread f → checkBody kind rule bs ≡ Faulty f

@@ -1,4 +1,5 @@
 pub mod Answers
+pub mod Passes
 pub mod Window
 pub mod Own
 pub mod Told

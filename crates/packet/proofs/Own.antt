@@ -5,84 +5,70 @@ use Prim.Native.Nat.{ℕ, _+_, _-_, _≤_, _<_}
 use native.Mathlib.Omega.{arith}
 use lib.ListN.{length, take, drop}
 use lib.Seq.{take-take}
-use lib.Dec.{eqb}
-use borrow.Author.Tests.{eqb-true, not-false}
+use borrow.Author.Tests.{not-false}
 use mathlib.Core.Bool.{not}
 use Rattle.units.specs.Units.{part}
 use Rattle.units.proofs.Choices.{passed}
+use Rattle.units.proofs.Parts.{length-part}
 use Rattle.terms.specs.Refusals.{refused}
-use Rattle.terms.specs.declared.Refusal.{Refusal}
-use Rattle.body.specs.declared.Checked.{Checked}
-use Rattle.body.specs.declared.Checked.the-variants.{Counted, Faulty}
 use Rattle.frame.specs.Header.{packetLength, flagsIn, dataLength, unfilledLength}
 use Rattle.frame.specs.Table.{first, frameLines}
 use Rattle.frame.specs.inner.Lengths.{Sound}
-use Rattle.frame.proofs.Frames.{flags-front, kind-front, packet-length-front, data-length-front, head-sum-front, filler-at-front, sum-at-front, body-front, data-sum-front, fields-front, frame-front, OfFront, own-bytes}
-use Rattle.packet.proofs.Answers.{outer-inside, inside-made, LetThrough, outer-open}
+use Rattle.frame.proofs.Frames.{flags-front, kind-front, packet-length-front, data-length-front, head-sum-front, filler-at-front, sum-at-front, body-front, data-sum-front, fields-front, frame-front, frame-sound, OfFront, own-bytes}
+use Rattle.packet.proofs.Passes.{Inside, inside-says, inside-made, PassedBytes, bytes-passed, passed-bytes, barred-passed, pass-inside, read-passed}
 use Rattle.packet.proofs.Window.{entries-told}
-use Rattle.packet.specs.Read.{window, outerRefusal, packetIn, bodyChecked, bodyAnswer, readPacket, Together}
+use Rattle.packet.specs.Read.{inside, window, packetIn, bodyChecked, passBytes, passWindow, readAnswer, readPacket, Together}
 use Rattle.packet.specs.Messages.{messageCount, kthMessage, listPacket, starts, lengths, messagePacket, entries}
 use Rattle.packet.specs.declared.Packet.{Packet}
-use Rattle.packet.specs.declared.PacketRead.the-variants.{Accepted, Refused}
+use Rattle.packet.specs.declared.PacketPass.{PacketPass}
+use Rattle.packet.specs.declared.PacketPass.the-variants.{Passed, Barred}
+use Rattle.packet.specs.declared.PacketRead.the-variants.{Accepted}
 
 -- ---- what acceptance says
 
-refused-accepted : (r : Refusal) (p : Packet) → Refused r ≡ Accepted p → ⊥
-refused-accepted r p e = let z : _≡_ {A = ℕ} 0 1 = cc in omega arith
-
 -- a window in its buffer, whose frame and body keep the rules, and the packet there
-pub record AcceptedAt (buf : List ℕ) (s e : ℕ) (p : Packet) : Type 0 where
-  pub opens : LetThrough buf s e
-  pub count : ℕ
-  pub body : bodyChecked (window buf s e) ≡ Counted count
-  pub packet : p ≡ packetIn (window buf s e) s
+pub record AcceptedAt (buf : List ℕ) (s e base : ℕ) (p : Packet) : Type 0 where
+  pub inside : Inside buf s e base
+  pub passes : PassedBytes (window buf s e) (p .length)
+  pub packet : p ≡ packetIn (window buf s e) s base
+  pub reach : s + length (window buf s e) ≡ e
 
-from-body : (c : Checked) (w : List ℕ) (at : ℕ) (p : Packet) → bodyAnswer c w at ≡ Accepted p → (n : ℕ) × (c ≡ Counted n) × (p ≡ packetIn w at)
-unfolding bodyAnswer
-from-body (Counted n) w at p e = (n, refl, cc)
-from-body (Faulty f) w at p e = absurd (refused-accepted _ p e)
-
-pub accepted-at : (buf : List ℕ) (s e : ℕ) (p : Packet) → readPacket buf s e ≡ Accepted p → AcceptedAt buf s e p
-unfolding readPacket
-accepted-at buf s e p h =
-    let w = window buf s e in
-    let n = outerRefusal buf s e in
-    let k = passed (not (eqb n 0)) (Refused (refused n s)) (bodyAnswer (bodyChecked w) w s) (Accepted p) (refused-accepted _ p) h in
-    let b = from-body (bodyChecked w) w s p (k .1) in
-    record {
-      opens = outer-open buf s e (eqb-true n 0 (not-false (eqb n 0) (k .0)));
-      count = b .0;
-      body = b .1;
-      packet = b .2;
-    }
-
-pub at-accepted : (buf : List ℕ) (s e : ℕ) (p : Packet) → AcceptedAt buf s e p → readPacket buf s e ≡ Accepted p
-unfolding readPacket bodyAnswer
-at-accepted buf s e p a =
-    let o = a .opens in
-    let z : outerRefusal buf s e ≡ 0 = sym (outer-inside buf s e 0 (inside-made buf s e (o .ordered) (o .within)) (sym (o .framed))) in
-    rw (z, a .body, a .packet)
-
-packet-in-length : (w : List ℕ) (at : ℕ) → packetIn w at .length ≡ packetLength w
+packet-in-length : (w : List ℕ) (at base : ℕ) → packetIn w at base .length ≡ packetLength w
 unfolding packetIn
-packet-in-length w at = refl
+packet-in-length w at base = refl
 
-pub accepted-length : (buf : List ℕ) (s e : ℕ) (p : Packet) → AcceptedAt buf s e p → p .length ≡ packetLength (window buf s e)
-accepted-length buf s e p at = ap (λ (q : Packet). q .length) (at .packet) ∙ packet-in-length (window buf s e) s
+pub accepted-at : (buf : List ℕ) (s e base : ℕ) (p : Packet) → readPacket buf s e base ≡ Accepted p → AcceptedAt buf s e base p
+unfolding readPacket readAnswer passWindow
+accepted-at buf s e base p h = go (passWindow buf s e base) refl h
+  where
+    go : (x : PacketPass) → passWindow buf s e base ≡ x → readAnswer x (window buf s e) s base ≡ Accepted p → AcceptedAt buf s e base p
+    go (Barred r) q a = let z : _≡_ {A = ℕ} 0 1 = cc a in absurd (omega arith)
+    go (Passed n) q a =
+        let w = window buf s e in
+        let k = passed (not (inside buf s e base)) (Barred (refused 1 s)) (passBytes w s) (Passed n) (barred-passed _ n) q in
+        let i = inside-says buf s e base (not-false (inside buf s e base) (k .0)) in
+        let b = bytes-passed w s n (k .1) in
+        let is : p ≡ packetIn w s base = cc a in
+        let long : n ≡ p .length = b .long ∙ sym (ap (λ (x : Packet). x .length) is ∙ packet-in-length w s base) in
+        record { inside = i; passes = rw long at b; packet = is; reach = omega (arith, length-part buf s (e - s) (omega (arith, i .ordered, i .within)), i .ordered) }
+
+pub at-accepted : (buf : List ℕ) (s e base : ℕ) (p : Packet) → Inside buf s e base → PassedBytes (window buf s e) (p .length)
+    → p ≡ packetIn (window buf s e) s base → readPacket buf s e base ≡ Accepted p
+at-accepted buf s e base p i b is =
+    sym (read-passed buf s e base (p .length) p (pass-inside buf s e base (inside-made buf s e base i) ∙ passed-bytes (window buf s e) s (p .length) b) is)
 
 -- an accepted packet is longer than its header, and all of it stands in its window
 pub record AcceptedFits (s e n : ℕ) : Type 0 where
   pub some : 24 < n
   pub within : s + n ≤ e
 
-pub accepted-fits : (buf : List ℕ) (s e : ℕ) (p : Packet) → readPacket buf s e ≡ Accepted p → AcceptedFits s e (p .length)
-accepted-fits buf s e p h =
-    let a = accepted-at buf s e p h in
-    let w = a .opens .sound in
-    let l = accepted-length buf s e p a in
+pub accepted-fits : (buf : List ℕ) (s e base : ℕ) (p : Packet) → readPacket buf s e base ≡ Accepted p → AcceptedFits s e (p .length)
+accepted-fits buf s e base p h =
+    let a = accepted-at buf s e base p h in
+    let w = a .passes .sound in
     record {
-      some = omega (arith, l, w .parts, w .some);
-      within = omega (arith, l, w .there, a .opens .reach);
+      some = omega (arith, a .passes .long, w .parts, w .some);
+      within = omega (arith, a .passes .long, w .there, a .reach);
     }
 
 -- ---- what is said of a packet whatever stands behind it
@@ -92,9 +78,9 @@ module _ (v t : List ℕ) (header : 24 ≤ length v) (there : packetLength v ≤
   unfolding bodyChecked
   checked-front = rw (body-front v t header there parts, fields-front v t header there parts)
 
-  packet-front : (at : ℕ) → packetIn (v ++ t) at ≡ packetIn v at
+  packet-front : (at base : ℕ) → packetIn (v ++ t) at base ≡ packetIn v at base
   unfolding packetIn
-  packet-front at =
+  packet-front at base =
       rw (
         fields-front v t header there parts,
         data-sum-front v t header there parts,
@@ -115,30 +101,42 @@ module _ (v t : List ℕ) (header : 24 ≤ length v) (there : packetLength v ≤
 
 -- ---- the bytes behind an accepted packet's declared length have no say, nor has the end beyond it
 
-module _ (a b : List ℕ) (s e f : ℕ) (p : Packet) (h : readPacket a s e ≡ Accepted p) (ends : s + p .length ≤ f) (in-b : f ≤ length b)
+module _ (a b : List ℕ) (s e f base : ℕ) (p : Packet) (h : readPacket a s e base ≡ Accepted p) (ends : s + p .length ≤ f) (in-b : Inside b s f base)
     (same : part a s (p .length) ≡ part b s (p .length)) where
   -- whatever is said of a packet alone is the same of both windows
   own : {A : Type 0} (said : List ℕ → A) → OfFront said → said (window b s f) ≡ said (window a s e)
   own said front =
-      let at = accepted-at a s e p h in
-      let k = accepted-fits a s e p h in
+      let at = accepted-at a s e base p h in
+      let k = accepted-fits a s e base p h in
       let w = window a s e in
       let u = window b s f in
-      let l = accepted-length a s e p at in
+      let l = at .passes .long in
       let x : take (p .length) u ≡ part b s (p .length) = take-take (p .length) (f - s) (drop s b) (omega arith) in
       let y : take (p .length) w ≡ part a s (p .length) = take-take (p .length) (e - s) (drop s a) (omega (arith, k .within)) in
-      own-bytes said front w u (at .opens .sound) (rw l at (x ∙ sym same ∙ sym y))
+      own-bytes said front w u (at .passes .sound) (rw l at (x ∙ sym same ∙ sym y))
 
-  pub own-read : readPacket b s f ≡ Accepted p
-  own-read =
-      let at = accepted-at a s e p h in
-      at-accepted b s f p
-      (record {
-        opens = outer-open b s f (sym (outer-inside b s f 0 (inside-made b s f (omega arith) in-b) (sym (ap first (own frameLines frame-front) ∙ at .opens .framed))));
+  own-passes : PassedBytes (window b s f) (p .length)
+  own-passes =
+      let at = accepted-at a s e base p h .passes in
+      let framed = ap first (own frameLines frame-front) ∙ at .framed in
+      record {
+        framed = framed;
+        sound = frame-sound (window b s f) framed;
         count = at .count;
         body = own bodyChecked checked-front ∙ at .body;
-        packet = at .packet ∙ sym (own (λ w. packetIn w s) (λ v t header there parts. packet-front v t header there parts s));
-      })
+        long = at .long ∙ sym (own packetLength (λ v t header there parts. packet-length-front v t header there parts));
+      }
+
+  pub own-read : readPacket b s f base ≡ Accepted p
+  own-read =
+      at-accepted b s f base p in-b own-passes
+      (accepted-at a s e base p h .packet ∙ sym (own (λ w. packetIn w s base) (λ v t header there parts. packet-front v t header there parts s base)))
+
+  own-pass : passWindow a s e base ≡ passWindow b s f base
+  own-pass =
+      let at = accepted-at a s e base p h in
+      pass-inside a s e base (inside-made a s e base (at .inside)) ∙ passed-bytes (window a s e) s (p .length) (at .passes)
+      ∙ sym (pass-inside b s f base (inside-made b s f base in-b) ∙ passed-bytes (window b s f) s (p .length) own-passes)
 
   own-count : messageCount (window a s e) ≡ messageCount (window b s f)
   unfolding messageCount
@@ -147,31 +145,31 @@ module _ (a b : List ℕ) (s e f : ℕ) (p : Packet) (h : readPacket a s e ≡ A
   own-messages : kthMessage (window a s e) ≡ kthMessage (window b s f)
   own-messages = sym (own kthMessage messages-front)
 
-  pub own-message : (k : ℕ) → messagePacket a s e k ≡ messagePacket b s f k
+  pub own-message : (k : ℕ) → messagePacket a s e base k ≡ messagePacket b s f base k
   unfolding messagePacket
-  own-message k = rw (h, own-read, own-count, own-messages)
+  own-message k = rw (own-pass, own-count, own-messages)
 
-  pub own-list : (m n : ℕ) → listPacket a s e m n ≡ listPacket b s f m n
+  pub own-list : (m n : ℕ) → listPacket a s e base m n ≡ listPacket b s f base m n
   unfolding listPacket
-  own-list m n = rw (h, own-read, own-count)
+  own-list m n = rw (own-pass, own-count)
 
   -- the entries told are equal, whatever the lists held before
   pub own-entries : (m n : ℕ) (old old′ : List ℕ)
-      → (entries (listPacket a s e m n) (starts (window a s e)) old ≡ entries (listPacket b s f m n) (starts (window b s f)) old′)
-      × (entries (listPacket a s e m n) (lengths (window a s e)) old ≡ entries (listPacket b s f m n) (lengths (window b s f)) old′)
+      → (entries (listPacket a s e base m n) (starts (window a s e)) old ≡ entries (listPacket b s f base m n) (starts (window b s f)) old′)
+      × (entries (listPacket a s e base m n) (lengths (window a s e)) old ≡ entries (listPacket b s f base m n) (lengths (window b s f)) old′)
   own-entries m n old old′ = (
-    (λ i. entries (own-list m n i) (λ k. own-messages i k .start) old) ∙ entries-told (listPacket b s f m n) (starts (window b s f)) old old′,
-    (λ i. entries (own-list m n i) (λ k. own-messages i k .length) old) ∙ entries-told (listPacket b s f m n) (lengths (window b s f)) old old′,
+    (λ i. entries (own-list m n i) (λ k. own-messages i k .start) old) ∙ entries-told (listPacket b s f base m n) (starts (window b s f)) old old′,
+    (λ i. entries (own-list m n i) (λ k. own-messages i k .length) old) ∙ entries-told (listPacket b s f base m n) (lengths (window b s f)) old old′,
   )
 
 -- ---- the parts of an accepted packet
 
-sound-together : (w : List ℕ) (at : ℕ) → Sound w → Together at (packetIn w at)
+sound-together : (w : List ℕ) (at base : ℕ) → Sound w → Together at (packetIn w at base)
 unfolding packetIn
-sound-together w at s =
+sound-together w at base s =
     record { header = refl; secondary = refl; body = omega arith; filler = omega arith; sum = omega (arith, s .parts); all = omega (arith, s .parts) }
 
-pub together : (buf : List ℕ) (s e : ℕ) (p : Packet) → readPacket buf s e ≡ Accepted p → Together s p
-together buf s e p h =
-    let a = accepted-at buf s e p h in
-    rw (a .packet) (sound-together (window buf s e) s (a .opens .sound))
+pub together : (buf : List ℕ) (s e base : ℕ) (p : Packet) → readPacket buf s e base ≡ Accepted p → Together s p
+together buf s e base p h =
+    let a = accepted-at buf s e base p h in
+    rw (a .packet) (sound-together (window buf s e) s base (a .passes .sound))

@@ -12,11 +12,11 @@ use Rattle.units.specs.Choice.{pick}
 use Rattle.terms.specs.Refusals.{refused, needing}
 use Rattle.body.specs.Answers.{tab, filled}
 use Rattle.body.proofs.Reading.{length-tab}
-use Rattle.packet.specs.Read.{window, outerLines, outerRefusal, readPacket}
-use Rattle.packet.proofs.Answers.{inside-same}
-use Rattle.packet.specs.Messages.{messageCount, listAnswer, listPacket, listAfter, starts, lengths, messagePacket, listTold, entries}
-use Rattle.packet.specs.declared.PacketRead.{PacketRead}
-use Rattle.packet.specs.declared.PacketRead.the-variants.{Accepted, Refused}
+use Rattle.packet.specs.Read.{window, passWindow, readPacket}
+use Rattle.packet.proofs.Passes.{inside-same}
+use Rattle.packet.specs.Messages.{messageCount, listAnswer, recordedList, listPacket, listAfter, starts, lengths, messagePacket, listTold, entries}
+use Rattle.packet.specs.declared.PacketPass.{PacketPass}
+use Rattle.packet.specs.declared.PacketPass.the-variants.{Passed, Barred}
 use Rattle.packet.specs.declared.PacketList.{PacketList}
 use Rattle.packet.specs.declared.PacketList.the-variants.{Listed, Unlisted}
 
@@ -36,18 +36,23 @@ entries-kept (Listed n) values old = drop-at (tab n values) (drop n old) n (leng
 entries-kept (Unlisted r) values old = refl
 
 -- the count fits the shorter list, and so a list keeps its length
-counted-fits : (x : PacketRead) (at n room : ℕ) → listTold (listAnswer x at n room) .count ≤ room
+counted-fits : (x : PacketPass) (at n room : ℕ) → listTold (listAnswer x at n room) .count ≤ room
 unfolding listAnswer
-counted-fits (Accepted p) at n room = go (ltb room n) refl
+counted-fits (Passed p) at n room = go (ltb room n) refl
   where
     go : (t : Bool) → ltb room n ≡ t → listTold (pick t (Unlisted (needing n (refused 16 at))) (Listed n)) .count ≤ room
     go true e = omega arith
     go false e = ltb-false room n e
-counted-fits (Refused r) at n room = omega arith
+counted-fits (Barred r) at n room = omega arith
 
-pub count-fits : (buf : List ℕ) (s e m n : ℕ) → listTold (listPacket buf s e m n) .count ≤ min m n
+-- its place in the recording has no say in the count
+recorded-count : (base s : ℕ) (x : PacketList) → listTold (recordedList base s x) .count ≡ listTold x .count
+recorded-count base s (Listed n) = refl
+recorded-count base s (Unlisted r) = refl
+
+pub count-fits : (buf : List ℕ) (s e base m n : ℕ) → listTold (listPacket buf s e base m n) .count ≤ min m n
 unfolding listPacket
-count-fits buf s e m n = counted-fits (readPacket buf s e) s (messageCount (window buf s e)) (min m n)
+count-fits buf s e base m n = rw (recorded-count base s _) (counted-fits (passWindow buf s e base) s (messageCount (window buf s e)) (min m n))
 
 pub length-after : (r : PacketList) (values : ℕ → ℕ) (old : List ℕ) → listTold r .count ≤ length old → length (listAfter r values old) ≡ length old
 unfolding listAfter filled
@@ -57,24 +62,28 @@ length-after (Unlisted r) values old h = refl
 -- ---- the window
 
 -- two buffers that reach to the end, with the same bytes from start to it
-module _ (a b : List ℕ) (s e : ℕ) (in-a : e ≤ length a) (in-b : e ≤ length b) (same : window a s e ≡ window b s e) where
-  pub read-window : readPacket a s e ≡ readPacket b s e
-  unfolding readPacket outerRefusal outerLines
-  read-window = rw (same, inside-same a b s e in-a in-b)
+module _ (a b : List ℕ) (s e base : ℕ) (in-a : e ≤ length a) (in-b : e ≤ length b) (same : window a s e ≡ window b s e) where
+  pass-window : passWindow a s e base ≡ passWindow b s e base
+  unfolding passWindow
+  pass-window = rw (same, inside-same a b s e base in-a in-b)
 
-  pub message-window : (k : ℕ) → messagePacket a s e k ≡ messagePacket b s e k
+  pub read-window : readPacket a s e base ≡ readPacket b s e base
+  unfolding readPacket
+  read-window = rw (same, pass-window)
+
+  pub message-window : (k : ℕ) → messagePacket a s e base k ≡ messagePacket b s e base k
   unfolding messagePacket
-  message-window k = rw (same, read-window)
+  message-window k = rw (same, pass-window)
 
-  pub list-window : (m n : ℕ) → listPacket a s e m n ≡ listPacket b s e m n
+  pub list-window : (m n : ℕ) → listPacket a s e base m n ≡ listPacket b s e base m n
   unfolding listPacket
-  list-window m n = rw (same, read-window)
+  list-window m n = rw (same, pass-window)
 
   -- the entries told are equal, whatever the lists held before
   pub entries-window : (m n : ℕ) (old old′ : List ℕ)
-      → (entries (listPacket a s e m n) (starts (window a s e)) old ≡ entries (listPacket b s e m n) (starts (window b s e)) old′)
-      × (entries (listPacket a s e m n) (lengths (window a s e)) old ≡ entries (listPacket b s e m n) (lengths (window b s e)) old′)
+      → (entries (listPacket a s e base m n) (starts (window a s e)) old ≡ entries (listPacket b s e base m n) (starts (window b s e)) old′)
+      × (entries (listPacket a s e base m n) (lengths (window a s e)) old ≡ entries (listPacket b s e base m n) (lengths (window b s e)) old′)
   entries-window m n old old′ = (
-    rw (same, list-window m n) (entries-told (listPacket b s e m n) (starts (window b s e)) old old′),
-    rw (same, list-window m n) (entries-told (listPacket b s e m n) (lengths (window b s e)) old old′),
+    rw (same, list-window m n) (entries-told (listPacket b s e base m n) (starts (window b s e)) old old′),
+    rw (same, list-window m n) (entries-told (listPacket b s e base m n) (lengths (window b s e)) old old′),
   )

@@ -1,4 +1,3 @@
 pub mod Read
 pub mod Messages
 pub mod Write
-pub mod inner

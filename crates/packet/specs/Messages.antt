@@ -4,7 +4,7 @@ use Prim.Native.Nat.{ℕ, _+_, min}
 use lib.ListN.{length, take}
 use lib.Dec.{leb, ltb}
 use Rattle.units.specs.Choice.{pick}
-use Rattle.terms.specs.Refusals.{refused, noRefusal, needing}
+use Rattle.terms.specs.Refusals.{refused, noRefusal, needing, recorded}
 use Rattle.body.specs.Answers.{noMessage, messageIn, filled}
 use Rattle.body.specs.declared.Message.{Message}
 use Rattle.terms.specs.declared.Refusal.{Refusal}
@@ -12,9 +12,9 @@ use Rattle.body.specs.declared.Checked.{Checked}
 use Rattle.body.specs.declared.Checked.the-variants.{Counted, Faulty}
 use Rattle.frame.specs.Header.{flagsIn, kindIn, bodyAt, bodyIn}
 use Rattle.frame.specs.Rules.{messageRule}
-use Rattle.packet.specs.Read.{window, bodyChecked, readPacket}
-use Rattle.packet.specs.declared.PacketRead.{PacketRead}
-use Rattle.packet.specs.declared.PacketRead.the-variants.{Accepted, Refused}
+use Rattle.packet.specs.Read.{window, bodyChecked, passWindow}
+use Rattle.packet.specs.declared.PacketPass.{PacketPass}
+use Rattle.packet.specs.declared.PacketPass.the-variants.{Passed, Barred}
 use Rattle.packet.specs.declared.PacketList.{PacketList}
 use Rattle.packet.specs.declared.PacketList.the-variants.{Listed, Unlisted}
 use Rattle.packet.specs.declared.PacketMessage.{PacketMessage}
@@ -43,13 +43,19 @@ kthMessage w k =
 -- ---- all of them
 
 -- 16 exactly when there are more messages than the shorter list holds, with the room needed
-unfoldable pub listAnswer : PacketRead → ℕ → ℕ → ℕ → PacketList
-listAnswer (Accepted p) at n room = pick (ltb room n) (Unlisted (needing n (refused 16 at))) (Listed n)
-listAnswer (Refused r) at n room = Unlisted r
+unfoldable pub listAnswer : PacketPass → ℕ → ℕ → ℕ → PacketList
+listAnswer (Passed p) at n room = pick (ltb room n) (Unlisted (needing n (refused 16 at))) (Listed n)
+listAnswer (Barred r) at n room = Unlisted r
+
+-- with its place in the recording (document 02 §9)
+abbrev pub recordedList : ℕ → ℕ → PacketList → PacketList
+recordedList base start (Listed n) = Listed n
+recordedList base start (Unlisted r) = Unlisted (recorded base start r)
 
 -- the answer, for lists of these lengths
-unfoldable pub listPacket : List ℕ → ℕ → ℕ → ℕ → ℕ → PacketList
-listPacket buf start end len₁ len₂ = listAnswer (readPacket buf start end) start (messageCount (window buf start end)) (min len₁ len₂)
+unfoldable pub listPacket : List ℕ → ℕ → ℕ → ℕ → ℕ → ℕ → PacketList
+listPacket buf start end base len₁ len₂ =
+    recordedList base start (listAnswer (passWindow buf start end base) start (messageCount (window buf start end)) (min len₁ len₂))
 
 -- a list after it: an entry for each message, those past the count untouched; all untouched on a refusal
 unfoldable pub listAfter : PacketList → (ℕ → ℕ) → List ℕ → List ℕ
@@ -65,13 +71,19 @@ lengths w k = kthMessage w k .length
 -- ---- one of them
 
 -- 17, at the packet's start, where there is no message of that number
-unfoldable pub messageAnswer : PacketRead → ℕ → ℕ → ℕ → Message → PacketMessage
-messageAnswer (Accepted p) at n k m = pick (leb n k) (Withheld (refused 17 at)) (Given m)
-messageAnswer (Refused r) at n k m = Withheld r
+unfoldable pub messageAnswer : PacketPass → ℕ → ℕ → ℕ → Message → PacketMessage
+messageAnswer (Passed p) at n k m = pick (leb n k) (Withheld (refused 17 at)) (Given m)
+messageAnswer (Barred r) at n k m = Withheld r
 
-unfoldable pub messagePacket : List ℕ → ℕ → ℕ → ℕ → PacketMessage
-messagePacket buf start end k =
-    messageAnswer (readPacket buf start end) start (messageCount (window buf start end)) k (kthMessage (window buf start end) k)
+-- with its place in the recording
+abbrev pub recordedMessage : ℕ → ℕ → PacketMessage → PacketMessage
+recordedMessage base start (Given m) = Given m
+recordedMessage base start (Withheld r) = Withheld (recorded base start r)
+
+unfoldable pub messagePacket : List ℕ → ℕ → ℕ → ℕ → ℕ → PacketMessage
+messagePacket buf start end base k =
+    recordedMessage base start
+    (messageAnswer (passWindow buf start end base) start (messageCount (window buf start end)) k (kthMessage (window buf start end) k))
 
 -- ---- document 01's number and values of each answer
 

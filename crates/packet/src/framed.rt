@@ -3,16 +3,13 @@ ghost use mathlib.Core.Path.{_≡_};
 ghost use Prim.Native.Nat.{_+_, _^_, _<_, min};
 ghost use lib.ListN.{length};
 ghost use Rattle.frame.specs.inner.Lengths.{Sound};
-ghost use Rattle.packet.specs.Read.{outerRefusal, packetIn, bodyChecked, bodyAnswer};
-ghost use Rattle.packet.specs.inner.Passes.{passOf};
+ghost use Rattle.packet.specs.Read.{packetIn, bodyChecked, passBody, passBytes};
 ghost use Rattle.packet.specs.Messages.{messageCount, kthMessage, listAnswer, listAfter, starts as Messages·starts, lengths as Messages·lengths, messageAnswer};
 use crate::Packet;
 use crate::PacketList;
 use crate::PacketMessage;
 use crate::PacketPass;
-use crate::PacketRead;
 use crate::Part;
-use crate::inside;
 use body::Listed;
 use body::Message;
 use body::Picked;
@@ -30,21 +27,11 @@ use terms::refuse;
 use units::read16;
 use units::read32;
 
-// The first of 1 and the frame's table that applies, or 0.
-pub fn outer_refusal(buf: &[u8], start: usize, end: usize) -> u8
-    ensures { λ r. ⌜ r ≡ outerRefusal (now (buf .entry)) start end ⌝ }
-{
-    if !inside(buf, start, end) {
-        return 1;
-    }
-    frame_refusal(&buf[start..end])
-}
-
 // 15, or the packet's length. A type that isn't opened leaves at once.
 pub fn pass_framed(w: &[u8], at: usize) -> PacketPass
     requires { ⌜ Sound (now w) ⌝ }
     requires { ⌜ at + length (now w) < 2 ^ 64 ⌝ }
-    ensures { λ r. ⌜ r ≡ passOf (bodyAnswer (bodyChecked (now (w .entry))) (now (w .entry)) at) ⌝ }
+    ensures { λ r. ⌜ r ≡ passBody (bodyChecked (now (w .entry))) (now (w .entry)) at ⌝ }
 {
     let kind = w[15];
     if !opens_kind(kind) {
@@ -60,23 +47,11 @@ pub fn pass_framed(w: &[u8], at: usize) -> PacketPass
     PacketPass::Passed(read32(w, 4))
 }
 
-// 15, or the packet.
-pub fn read_framed(w: &[u8], at: usize) -> PacketRead
+// The packet's record; it stands there in its buffer and in the recording.
+pub fn packet_in(w: &[u8], at: usize, recording_place: u64) -> Packet
     requires { ⌜ Sound (now w) ⌝ }
     requires { ⌜ at + length (now w) < 2 ^ 64 ⌝ }
-    ensures { λ r. ⌜ r ≡ bodyAnswer (bodyChecked (now (w .entry))) (now (w .entry)) at ⌝ }
-{
-    match pass_framed(w, at) {
-        PacketPass::Passed(_) => PacketRead::Accepted(packet_in(w, at)),
-        PacketPass::Barred(refusal) => PacketRead::Refused(refusal),
-    }
-}
-
-// The packet's record.
-fn packet_in(w: &[u8], at: usize) -> Packet
-    requires { ⌜ Sound (now w) ⌝ }
-    requires { ⌜ at + length (now w) < 2 ^ 64 ⌝ }
-    ensures { λ r. ⌜ r ≡ packetIn (now (w .entry)) at ⌝ }
+    ensures { λ r. ⌜ r ≡ packetIn (now (w .entry)) at «recording_place» ⌝ }
 {
     let layout = measure(w);
     let body = layout.body;
@@ -89,6 +64,7 @@ fn packet_in(w: &[u8], at: usize) -> Packet
         data_length: read32(w, 8),
         header_sum: read16(w, 22),
         data_sum: read_sum(w, sum, w[14] % 4),
+        recording_place,
         header: Part { at, length: 24 },
         secondary: Part {
             at: at + 24,
@@ -109,11 +85,25 @@ fn packet_in(w: &[u8], at: usize) -> Packet
     }
 }
 
+// The reader's tests, then 16, or both lists filled.
+pub fn list_bytes(w: &[u8], at: usize, starts: &mut [u32], lengths: &mut [u32]) -> PacketList
+    requires { ⌜ at + length (now w) < 2 ^ 64 ⌝ }
+    ensures { λ r. ⌜ r ≡ listAnswer (passBytes (now (w .entry)) at) at (messageCount (now (w .entry))) (min (length (now (starts .entry))) (length (now (lengths .entry)))) ⌝ }
+    ensures { λ r. ⌜ now (starts .exit) ≡ listAfter r (Messages·starts (now (w .entry))) (now (starts .entry)) ⌝ }
+    ensures { λ r. ⌜ now (lengths .exit) ≡ listAfter r (Messages·lengths (now (w .entry))) (now (lengths .entry)) ⌝ }
+{
+    let number = frame_refusal(w);
+    if number != 0 {
+        return PacketList::Unlisted(refuse(number, at));
+    }
+    list_framed(w, at, starts, lengths)
+}
+
 // 15, then 16, or both lists filled.
-pub fn list_framed(w: &[u8], at: usize, starts: &mut [u32], lengths: &mut [u32]) -> PacketList
+fn list_framed(w: &[u8], at: usize, starts: &mut [u32], lengths: &mut [u32]) -> PacketList
     requires { ⌜ Sound (now w) ⌝ }
     requires { ⌜ at + length (now w) < 2 ^ 64 ⌝ }
-    ensures { λ r. ⌜ r ≡ listAnswer (bodyAnswer (bodyChecked (now (w .entry))) (now (w .entry)) at) at (messageCount (now (w .entry))) (min (length (now (starts .entry))) (length (now (lengths .entry)))) ⌝ }
+    ensures { λ r. ⌜ r ≡ listAnswer (passBody (bodyChecked (now (w .entry))) (now (w .entry)) at) at (messageCount (now (w .entry))) (min (length (now (starts .entry))) (length (now (lengths .entry)))) ⌝ }
     ensures { λ r. ⌜ now (starts .exit) ≡ listAfter r (Messages·starts (now (w .entry))) (now (starts .entry)) ⌝ }
     ensures { λ r. ⌜ now (lengths .exit) ≡ listAfter r (Messages·lengths (now (w .entry))) (now (lengths .entry)) ⌝ }
 {
@@ -134,11 +124,23 @@ pub fn list_framed(w: &[u8], at: usize, starts: &mut [u32], lengths: &mut [u32])
     }
 }
 
+// The reader's tests, then 17, or the message.
+pub fn message_bytes(w: &[u8], at: usize, number: usize) -> PacketMessage
+    requires { ⌜ at + length (now w) < 2 ^ 64 ⌝ }
+    ensures { λ r. ⌜ r ≡ messageAnswer (passBytes (now (w .entry)) at) at (messageCount (now (w .entry))) number (kthMessage (now (w .entry)) number) ⌝ }
+{
+    let refusal = frame_refusal(w);
+    if refusal != 0 {
+        return PacketMessage::Withheld(refuse(refusal, at));
+    }
+    message_framed(w, at, number)
+}
+
 // 15, then 17, or the message.
-pub fn message_framed(w: &[u8], at: usize, number: usize) -> PacketMessage
+fn message_framed(w: &[u8], at: usize, number: usize) -> PacketMessage
     requires { ⌜ Sound (now w) ⌝ }
     requires { ⌜ at + length (now w) < 2 ^ 64 ⌝ }
-    ensures { λ r. ⌜ r ≡ messageAnswer (bodyAnswer (bodyChecked (now (w .entry))) (now (w .entry)) at) at (messageCount (now (w .entry))) number (kthMessage (now (w .entry)) number) ⌝ }
+    ensures { λ r. ⌜ r ≡ messageAnswer (passBody (bodyChecked (now (w .entry))) (now (w .entry)) at) at (messageCount (now (w .entry))) number (kthMessage (now (w .entry)) number) ⌝ }
 {
     let layout = measure(w);
     let body = layout.body;

@@ -11,7 +11,7 @@ returns c =
     let fields-in = c .before .before .before .before .fields-in in
     let read322 = c .before .before .before .read322 in
     let read16 = c .before .before .read16 in
-    packet-is _ _ _ _ _ _ _ _ (pre .0) (measure .ensures) (fields-in .ensures) (read32 .ensures) (read322 .ensures) (read16 .ensures)
+    packet-is _ _ _ _ _ _ _ _ _ (pre .0) (measure .ensures) (fields-in .ensures) (read32 .ensures) (read322 .ensures) (read16 .ensures)
     (c .read-sum .ensures)
 
 pub packet-in-spec : {M : Type 1} → statement M

@@ -1,2 +1,0 @@
--- Cited by contracts of inner functions only: no contract of a public call rests on what stands here.
-pub mod Passes
