@@ -9,13 +9,12 @@ use borrow.Author.Tests.{not-false}
 use mathlib.Core.Bool.{not}
 use Rattle.units.specs.Units.{part}
 use Rattle.units.proofs.Choices.{passed}
-use Rattle.units.proofs.Parts.{length-part}
 use Rattle.terms.specs.Refusals.{refused}
 use Rattle.frame.specs.Header.{packetLength, flagsIn, dataLength, unfilledLength}
 use Rattle.frame.specs.Table.{first, frameLines}
 use Rattle.frame.specs.inner.Lengths.{Sound}
 use Rattle.frame.proofs.Frames.{flags-front, kind-front, packet-length-front, data-length-front, head-sum-front, filler-at-front, sum-at-front, body-front, data-sum-front, fields-front, frame-front, frame-sound, OfFront, own-bytes}
-use Rattle.packet.proofs.Passes.{Inside, inside-says, inside-made, PassedBytes, bytes-passed, passed-bytes, barred-passed, pass-inside, read-passed}
+use Rattle.packet.proofs.Passes.{Inside, inside-says, inside-made, window-ends, PassedBytes, bytes-passed, passed-bytes, barred-passed, pass-inside, read-passed}
 use Rattle.packet.proofs.Window.{entries-told}
 use Rattle.packet.specs.Read.{inside, window, packetIn, bodyChecked, passBytes, passWindow, readAnswer, readPacket, Together}
 use Rattle.packet.specs.Messages.{messageCount, kthMessage, listPacket, starts, lengths, messagePacket, entries}
@@ -50,7 +49,7 @@ accepted-at buf s e base p h = go (passWindow buf s e base) refl h
         let b = bytes-passed w s n (k .1) in
         let is : p ≡ packetIn w s base = cc a in
         let long : n ≡ p .length = b .long ∙ sym (ap (λ (x : Packet). x .length) is ∙ packet-in-length w s base) in
-        record { inside = i; passes = rw long at b; packet = is; reach = omega (arith, length-part buf s (e - s) (omega (arith, i .ordered, i .within)), i .ordered) }
+        record { inside = i; passes = rw long at b; packet = is; reach = window-ends buf s e base i }
 
 pub at-accepted : (buf : List ℕ) (s e base : ℕ) (p : Packet) → Inside buf s e base → PassedBytes (window buf s e) (p .length)
     → p ≡ packetIn (window buf s e) s base → readPacket buf s e base ≡ Accepted p

@@ -8,7 +8,7 @@ use lib.ListN.{length}
 use lib.Dec.{leb, ltb, eqb}
 use borrow.Author.Tests.{le-leb, leb-true, lt-ltb, ltb-true, ne-eqb, eqb-true, not-false}
 use Rattle.units.specs.Choice.{pick}
-use Rattle.units.proofs.Choices.{and-true, passed}
+use Rattle.units.proofs.Choices.{and-true, passed, same-test}
 use Rattle.units.proofs.Parts.{length-part}
 use Rattle.terms.specs.Refusals.{refused, needing, recorded}
 use Rattle.terms.specs.declared.Refusal.{Refusal}
@@ -22,7 +22,7 @@ use Rattle.frame.specs.Table.{first, frameLines}
 use Rattle.frame.specs.inner.Lengths.{Sound}
 use Rattle.frame.proofs.Frames.{frame-sound}
 use Rattle.packet.specs.Read.{inside, window, packetIn, bodyChecked, passBody, passBytes, passWindow, readAnswer, readPacket}
-use Rattle.packet.specs.Messages.{messageCount, kthMessage, listAnswer, listPacket, messageAnswer, messagePacket}
+use Rattle.packet.specs.Messages.{messageCount, kthMessage, listAnswer, listPacket, listAfter, messageAnswer, messagePacket}
 use Rattle.packet.specs.declared.Packet.{Packet}
 use Rattle.packet.specs.declared.PacketPass.{PacketPass}
 use Rattle.packet.specs.declared.PacketPass.the-variants.{Passed, Barred}
@@ -53,6 +53,22 @@ inside-made buf s e base i = rw (le-leb s e (i .ordered), le-leb e (length buf) 
 pub inside-same : (a b : List ℕ) (s e base : ℕ) → e ≤ length a → e ≤ length b → inside a s e base ≡ inside b s e base
 unfolding inside
 inside-same a b s e base h g = rw (le-leb e (length a) h, le-leb e (length b) g)
+
+-- the code's test: the last place that the base leaves
+pub inside-code : (buf : List ℕ) (s e base : ℕ) → base < 2 ^ 64 → (leb s e && leb e (length buf)) ≡ true → leb (e - s) (0xFFFFFFFFFFFFFFFF - base) ≡ inside buf s e base
+unfolding inside
+inside-code buf s e base small h =
+    rw h
+    (same-test (leb (e - s) (0xFFFFFFFFFFFFFFFF - base)) (ltb (base + (e - s)) (2 ^ 64))
+    (λ t. lt-ltb (base + (e - s)) (2 ^ 64) (omega (arith, small, leb-true (e - s) (0xFFFFFFFFFFFFFFFF - base) t)))
+    (λ t. le-leb (e - s) (0xFFFFFFFFFFFFFFFF - base) (omega (arith, small, ltb-true (base + (e - s)) (2 ^ 64) t))))
+
+pub inside-not : (buf : List ℕ) (s e base : ℕ) → (leb s e && leb e (length buf)) ≡ false → (leb s e && leb e (length buf)) ≡ inside buf s e base
+unfolding inside
+inside-not buf s e base h = rw h
+
+pub window-ends : (buf : List ℕ) (s e base : ℕ) → Inside buf s e base → s + length (window buf s e) ≡ e
+window-ends buf s e base i = omega (arith, length-part buf s (e - s) (omega (arith, i .ordered, i .within)), i .ordered)
 
 -- ---- the reader's tests on a window's bytes; n is what the code found in the frame's table
 
@@ -118,8 +134,8 @@ passed-bytes w at n p = rw (p .framed, p .body, p .long)
 
 -- ---- where a refusal stands: in the window
 
-abbrev pub In : ℕ → ℕ → Refusal → Type 0
-In at n r = (at ≤ r .place) × (r .place ≤ at + n)
+abbrev pub In : ℕ → ℕ → ℕ → Type 0
+In at n place = (at ≤ place) × (place ≤ at + n)
 
 -- a fault is in its packet's body
 fault-in : (w : List ℕ) (at : ℕ) (f : Refusal) → Sound w → bodyChecked w ≡ Faulty f → bodyAt (flagsIn w) + f .place ≤ length w
@@ -129,52 +145,50 @@ fault-in w at f s e =
     let long = length-part w (bodyAt (flagsIn w)) (dataLength w) (omega (arith, s .parts, s .there)) in
     omega (arith, p, long, s .parts, s .there)
 
-body-in : (c : Checked) (w : List ℕ) (at : ℕ) (r : Refusal) → Sound w → bodyChecked w ≡ c → passBody c w at ≡ Barred r → In at (length w) r
+body-in : (c : Checked) (w : List ℕ) (at : ℕ) (r : Refusal) → Sound w → bodyChecked w ≡ c → passBody c w at ≡ Barred r → In at (length w) (r .place)
 unfolding passBody
 body-in (Counted n) w at r s e h = absurd (barred-passed r _ (sym h))
 body-in (Faulty f) w at r s e h =
     let is : at + bodyAt (flagsIn w) + f .place ≡ r .place = cc in
     (omega (arith, is), omega (arith, is, fault-in w at f s e))
 
-pub pass-in : (w : List ℕ) (at : ℕ) (r : Refusal) → passBytes w at ≡ Barred r → In at (length w) r
+pub pass-in : (w : List ℕ) (at : ℕ) (r : Refusal) → passBytes w at ≡ Barred r → In at (length w) (r .place)
 unfolding passBytes
 pass-in w at r h = go (eqb (first (frameLines w)) 0) refl h
   where
     go : (t : Bool) → eqb (first (frameLines w)) 0 ≡ t → pick (not t) (Barred (refused (first (frameLines w)) at)) (passBody (bodyChecked w) w at) ≡ Barred r
-        → In at (length w) r
+        → In at (length w) (r .place)
     go true z q = body-in (bodyChecked w) w at r (frame-sound w (eqb-true _ 0 z)) refl q
     go false z q = let is : at ≡ r .place = cc in (omega (arith, is), omega (arith, is))
 
-pub list-in : (w : List ℕ) (at n room : ℕ) (r : Refusal) → listAnswer (passBytes w at) at n room ≡ Unlisted r → In at (length w) r
+pub list-in : (w : List ℕ) (at n room : ℕ) (r : Refusal) → listAnswer (passBytes w at) at n room ≡ Unlisted r → In at (length w) (r .place)
 unfolding listAnswer
 list-in w at n room r h = go (passBytes w at) refl h
   where
-    full : (t : Bool) → pick t (Unlisted (needing n (refused 16 at))) (Listed n) ≡ Unlisted r → In at (length w) r
+    full : (t : Bool) → pick t (Unlisted (needing n (refused 16 at))) (Listed n) ≡ Unlisted r → In at (length w) (r .place)
     full true q = let is : at ≡ r .place = cc in (omega (arith, is), omega (arith, is))
     full false q = let z : _≡_ {A = ℕ} 0 1 = cc in absurd (omega arith)
 
-    go : (x : PacketPass) → passBytes w at ≡ x → listAnswer x at n room ≡ Unlisted r → In at (length w) r
+    go : (x : PacketPass) → passBytes w at ≡ x → listAnswer x at n room ≡ Unlisted r → In at (length w) (r .place)
     go (Passed k) e q = full (ltb room n) q
     go (Barred b) e q = let is : b ≡ r = cc in pass-in w at r (rw is at e)
 
-pub message-in : (w : List ℕ) (at n k : ℕ) (m : Message) (r : Refusal) → messageAnswer (passBytes w at) at n k m ≡ Withheld r → In at (length w) r
+pub message-in : (w : List ℕ) (at n k : ℕ) (m : Message) (r : Refusal) → messageAnswer (passBytes w at) at n k m ≡ Withheld r → In at (length w) (r .place)
 unfolding messageAnswer
 message-in w at n k m r h = go (passBytes w at) refl h
   where
-    there : (t : Bool) → pick t (Withheld (refused 17 at)) (Given m) ≡ Withheld r → In at (length w) r
+    there : (t : Bool) → pick t (Withheld (refused 17 at)) (Given m) ≡ Withheld r → In at (length w) (r .place)
     there true q = let is : at ≡ r .place = cc in (omega (arith, is), omega (arith, is))
     there false q = let z : _≡_ {A = ℕ} 0 1 = cc in absurd (omega arith)
 
-    go : (x : PacketPass) → passBytes w at ≡ x → messageAnswer x at n k m ≡ Withheld r → In at (length w) r
+    go : (x : PacketPass) → passBytes w at ≡ x → messageAnswer x at n k m ≡ Withheld r → In at (length w) (r .place)
     go (Passed p) e q = there (leb n k) q
     go (Barred b) e q = let is : b ≡ r = cc in pass-in w at r (rw is at e)
 
 -- so that its place in the recording is below 2^64
-pub window-reach : (buf : List ℕ) (s e base : ℕ) (r : Refusal) → Inside buf s e base → In s (length (window buf s e)) r
-    → (s ≤ r .place) × (base + (r .place - s) < 2 ^ 64)
-window-reach buf s e base r i p =
-    let long = length-part buf s (e - s) (omega (arith, i .ordered, i .within)) in
-    (p .0, omega (arith, p .1, long, i .fits))
+pub window-reach : (buf : List ℕ) (s e base place : ℕ) → Inside buf s e base → In s (length (window buf s e)) place → (s ≤ place) × (base + (place - s) < 2 ^ 64)
+window-reach buf s e base place i p =
+    (p .0, omega (arith, p .1, window-ends buf s e base i, i .fits))
 
 -- ---- the calls
 
@@ -187,7 +201,7 @@ module _ (buf : List ℕ) (s e base : ℕ) where
   unfolding passWindow
   pass-inside i = rw i
 
-  -- q is the code's refusal
+  -- q is what the code tells: the refusal r with its place in the recording
   pub read-barred : (r q : Refusal) → passWindow buf s e base ≡ Barred r → q ≡ recorded base s r → Refused q ≡ readPacket buf s e base
   unfolding readPacket readAnswer
   read-barred r q h is = rw (is, h)
@@ -198,6 +212,13 @@ module _ (buf : List ℕ) (s e base : ℕ) where
 
   abbrev listed : ℕ → ℕ → PacketPass → PacketList
   listed m k x = listAnswer x s (messageCount (window buf s e)) (min m k)
+
+  pub list-outside : (m k : ℕ) → inside buf s e base ≡ false → listed m k (passWindow buf s e base) ≡ Unlisted (refused 1 s)
+  unfolding listAnswer
+  list-outside m k i = rw (pass-outside i)
+
+  pub list-inside : (m k : ℕ) → inside buf s e base ≡ true → listed m k (passWindow buf s e base) ≡ listed m k (passBytes (window buf s e) s)
+  list-inside m k i = rw (pass-inside i)
 
   pub list-says-no : (m k : ℕ) (r q : Refusal) → listed m k (passWindow buf s e base) ≡ Unlisted r → q ≡ recorded base s r
       → Unlisted q ≡ listPacket buf s e base m k
@@ -211,6 +232,13 @@ module _ (buf : List ℕ) (s e base : ℕ) where
   abbrev given : ℕ → PacketPass → PacketMessage
   given k x = messageAnswer x s (messageCount (window buf s e)) k (kthMessage (window buf s e) k)
 
+  pub message-outside : (k : ℕ) → inside buf s e base ≡ false → given k (passWindow buf s e base) ≡ Withheld (refused 1 s)
+  unfolding messageAnswer
+  message-outside k i = rw (pass-outside i)
+
+  pub message-inside : (k : ℕ) → inside buf s e base ≡ true → given k (passWindow buf s e base) ≡ given k (passBytes (window buf s e) s)
+  message-inside k i = rw (pass-inside i)
+
   pub message-says-no : (k : ℕ) (r q : Refusal) → given k (passWindow buf s e base) ≡ Withheld r → q ≡ recorded base s r
       → Withheld q ≡ messagePacket buf s e base k
   unfolding messagePacket
@@ -219,3 +247,11 @@ module _ (buf : List ℕ) (s e base : ℕ) where
   pub message-says-yes : (k : ℕ) (m : Message) → given k (passWindow buf s e base) ≡ Given m → Given m ≡ messagePacket buf s e base k
   unfolding messagePacket
   message-says-yes k m h = rw h
+
+-- what a list holds after it; x is what was said of the window's bytes
+pub after-yes : {x : PacketList} {n : ℕ} (entries : ℕ → ℕ) (old : List ℕ) → x ≡ Listed n → listAfter x entries old ≡ listAfter (Listed n) entries old
+after-yes entries old e = rw e
+
+pub after-no : {x : PacketList} {r : Refusal} (q : Refusal) (entries : ℕ → ℕ) (old : List ℕ) → x ≡ Unlisted r → listAfter x entries old ≡ listAfter (Unlisted q) entries old
+unfolding listAfter
+after-no q entries old e = rw e

@@ -84,7 +84,7 @@ pub enum PacketWrite {
 pub fn inside(buf: &[u8], start: usize, end: usize, base: u64) -> bool
     ensures { λ r. ⌜ r ≡ inside (now (buf .entry)) start end base ⌝ }
 {
-    start <= end && end <= buf.len() && (end - start) as u64 <= 0xFFFF_FFFF_FFFF_FFFF - base
+    (start <= end) & (end <= buf.len()) && (end - start) as u64 <= 0xFFFF_FFFF_FFFF_FFFF - base
 }
 
 // 1, where it is not.
