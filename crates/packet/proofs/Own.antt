@@ -32,7 +32,7 @@ pub record AcceptedAt (buf : List ℕ) (s e base : ℕ) (p : Packet) : Type 0 wh
   pub packet : p ≡ packetIn (window buf s e) s base
   pub reach : s + length (window buf s e) ≡ e
 
-packet-in-length : (w : List ℕ) (at base : ℕ) → packetIn w at base .length ≡ packetLength w
+pub packet-in-length : (w : List ℕ) (at base : ℕ) → packetLength w ≡ packetIn w at base .length
 unfolding packetIn
 packet-in-length w at base = refl
 
@@ -48,7 +48,7 @@ accepted-at buf s e base p h = go (passWindow buf s e base) refl h
         let i = inside-says buf s e base (not-false (inside buf s e base) (k .0)) in
         let b = bytes-passed w s n (k .1) in
         let is : p ≡ packetIn w s base = cc a in
-        let long : n ≡ p .length = b .long ∙ sym (ap (λ (x : Packet). x .length) is ∙ packet-in-length w s base) in
+        let long : n ≡ p .length = b .long ∙ packet-in-length w s base ∙ sym (ap (λ (x : Packet). x .length) is) in
         record { inside = i; passes = rw long at b; packet = is; reach = window-ends buf s e base i }
 
 pub at-accepted : (buf : List ℕ) (s e base : ℕ) (p : Packet) → Inside buf s e base → PassedBytes (window buf s e) (p .length)
