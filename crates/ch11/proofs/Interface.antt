@@ -79,13 +79,13 @@ module _ (d : Draft) (len time upper n : ℕ) where
   given-1 e = rw (bad-made d len time n e, e)
 
   given-17 : 65535 < upper → stepTold (addStep d len time n) .refusal .number ≢ 1
-      → stepTold (addGiven d len time upper n) ≡ record { refusal = record { number = 17; place = 0; room = 0; reason = 0 }; draft = d }
+      → stepTold (addGiven d len time upper n) ≡ record { refusal = record { number = 17; place = 0; room = 0; reason = 0; «recording_place» = 0 }; draft = d }
   unfolding addGiven
   given-17 wide other = go (badDraft d len) refl
     where
       go : (a : Bool) → badDraft d len ≡ a
           → stepTold (pick a (Denied (refused 1 0) d) (pick (ltb 65535 upper) (Denied (refused 17 0) d) (addStep d len time n)))
-          ≡ record { refusal = record { number = 17; place = 0; room = 0; reason = 0 }; draft = d }
+          ≡ record { refusal = record { number = 17; place = 0; room = 0; reason = 0; «recording_place» = 0 }; draft = d }
       go true q = absurd (other (ap (λ (s : Step). stepTold s .refusal .number) (bad-made d len time n q)))
       go false q = rw (lt-ltb 65535 upper wide)
 
@@ -115,13 +115,13 @@ interface =
       written = λ t. refl;
       draft = λ t. refl;
       fields-given = λ channel version sequence flags kind rtc time. refl;
-      draft-given = λ number place room reason used blocks kind rule. refl;
+      draft-given = λ number place room reason recorded used blocks kind rule. refl;
       write-17 = λ c room n. rw (unheld (c .fields) n);
       writes = λ c room h. rw (fit-made (c .fields) h);
-      read-packet = λ buf start end n s h. answers _ _ n s h;
-      list-messages = λ buf start end starts₀ lengths₀ n s starts₁ lengths₁ (h, a, b). (_, refl, answers _ _ n s h, a, b);
-      give-message = λ buf start end number n s h. answers _ _ n s h;
-      read-recording = λ buf start end n s h. answers _ _ n s h;
+      read-packet = λ buf start end base n s h. answers _ _ n s h;
+      list-messages = λ buf start end base starts₀ lengths₀ n s starts₁ lengths₁ (h, a, b). (_, refl, answers _ _ n s h, a, b);
+      give-message = λ buf start end base number n s h. answers _ _ n s h;
+      read-recording = λ buf start end base n s h. answers _ _ n s h;
       write-packet = λ fields body out₀ n s out₁ (h, o). (_, refl, answers _ _ n s h, o);
       open-body = λ draft₀ buf₀ kind rule n s buf₁ (h, b). (_, refl, answers _ _ n s h, b);
       add-block = λ draft₀ buf₀ time upper bytes n s buf₁ (h, b). (_, refl, answers _ _ n s h, b);

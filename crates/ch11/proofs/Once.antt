@@ -20,24 +20,24 @@ with-once words after r r′ struct struct′ slice slice′ h h′ =
 
 -- ---- readers
 
-pub read-packet-once : (buf : List ℕ) (start end r r′ : ℕ) (packet packet′ : List ℕ) → ReadPacket buf start end r packet → ReadPacket buf start end r′ packet′
+pub read-packet-once : (buf : List ℕ) (start end base r r′ : ℕ) (packet packet′ : List ℕ) → ReadPacket buf start end base r packet → ReadPacket buf start end base r′ packet′
     → (r ≡ r′) × (packet ≡ packet′)
-read-packet-once buf start end r r′ packet packet′ = holds-once _ r r′ packet packet′
+read-packet-once buf start end base r r′ packet packet′ = holds-once _ r r′ packet packet′
 
-pub list-messages-once : (buf : List ℕ) (start end : ℕ) (starts₀ lengths₀ : List ℕ) (r r′ : ℕ) (list list′ starts₁ starts₁′ lengths₁ lengths₁′ : List ℕ)
-    → ListMessages buf start end starts₀ lengths₀ r list starts₁ lengths₁ → ListMessages buf start end starts₀ lengths₀ r′ list′ starts₁′ lengths₁′
+pub list-messages-once : (buf : List ℕ) (start end base : ℕ) (starts₀ lengths₀ : List ℕ) (r r′ : ℕ) (list list′ starts₁ starts₁′ lengths₁ lengths₁′ : List ℕ)
+    → ListMessages buf start end base starts₀ lengths₀ r list starts₁ lengths₁ → ListMessages buf start end base starts₀ lengths₀ r′ list′ starts₁′ lengths₁′
     → (r ≡ r′) × (list ≡ list′) × (starts₁ ≡ starts₁′) × (lengths₁ ≡ lengths₁′)
-list-messages-once buf start end starts₀ lengths₀ r r′ list list′ starts₁ starts₁′ lengths₁ lengths₁′ h h′ =
+list-messages-once buf start end base starts₀ lengths₀ r r′ list list′ starts₁ starts₁′ lengths₁ lengths₁′ h h′ =
     let s = with-once _ _ r r′ list list′ starts₁ starts₁′ (h .0, h .1) (h′ .0, h′ .1) in
     (s .0, s .1, s .2, h .2 ∙ sym (h′ .2))
 
-pub message-once : (buf : List ℕ) (start end number r r′ : ℕ) (message message′ : List ℕ) → GiveMessage buf start end number r message
-    → GiveMessage buf start end number r′ message′ → (r ≡ r′) × (message ≡ message′)
-message-once buf start end number r r′ message message′ = holds-once _ r r′ message message′
+pub message-once : (buf : List ℕ) (start end base number r r′ : ℕ) (message message′ : List ℕ) → GiveMessage buf start end base number r message
+    → GiveMessage buf start end base number r′ message′ → (r ≡ r′) × (message ≡ message′)
+message-once buf start end base number r r′ message message′ = holds-once _ r r′ message message′
 
-pub read-recording-once : (buf : List ℕ) (start end r r′ : ℕ) (recording recording′ : List ℕ) → ReadRecording buf start end r recording
-    → ReadRecording buf start end r′ recording′ → (r ≡ r′) × (recording ≡ recording′)
-read-recording-once buf start end r r′ recording recording′ = holds-once _ r r′ recording recording′
+pub read-recording-once : (buf : List ℕ) (start end base r r′ : ℕ) (recording recording′ : List ℕ) → ReadRecording buf start end base r recording
+    → ReadRecording buf start end base r′ recording′ → (r ≡ r′) × (recording ≡ recording′)
+read-recording-once buf start end base r r′ recording recording′ = holds-once _ r r′ recording recording′
 
 -- ---- the writer
 

@@ -22,24 +22,24 @@ Holds words r struct = (struct ≡ words) × (r ≡ getD struct 0 0)
 
 -- ---- readers
 
--- ch11_read_packet(buf, start, end, packet)
-abbrev pub ReadPacket : List ℕ → ℕ → ℕ → ℕ → List ℕ → Type 0
-ReadPacket buf start end = Holds (packetWords (packetTold (readPacket buf start end)))
+-- ch11_read_packet(buf, start, end, base, packet)
+abbrev pub ReadPacket : List ℕ → ℕ → ℕ → ℕ → ℕ → List ℕ → Type 0
+ReadPacket buf start end base = Holds (packetWords (packetTold (readPacket buf start end base)))
 
--- ch11_list_messages(buf, start, end, starts, lengths, list): the two lists at entry; then the number, the struct and the two lists at exit
-abbrev pub ListMessages : List ℕ → ℕ → ℕ → List ℕ → List ℕ → ℕ → List ℕ → List ℕ → List ℕ → Type 0
-ListMessages buf start end starts₀ lengths₀ r list starts₁ lengths₁ =
-    Holds (listWords (listTold (listPacket buf start end (length starts₀) (length lengths₀)))) r list
-    × (starts₁ ≡ listAfter (listPacket buf start end (length starts₀) (length lengths₀)) (starts (window buf start end)) starts₀)
-    × (lengths₁ ≡ listAfter (listPacket buf start end (length starts₀) (length lengths₀)) (lengths (window buf start end)) lengths₀)
+-- ch11_list_messages(buf, start, end, base, starts, lengths, list): the two lists at entry; then the number, the struct and the two lists at exit
+abbrev pub ListMessages : List ℕ → ℕ → ℕ → ℕ → List ℕ → List ℕ → ℕ → List ℕ → List ℕ → List ℕ → Type 0
+ListMessages buf start end base starts₀ lengths₀ r list starts₁ lengths₁ =
+    Holds (listWords (listTold (listPacket buf start end base (length starts₀) (length lengths₀)))) r list
+    × (starts₁ ≡ listAfter (listPacket buf start end base (length starts₀) (length lengths₀)) (starts (window buf start end)) starts₀)
+    × (lengths₁ ≡ listAfter (listPacket buf start end base (length starts₀) (length lengths₀)) (lengths (window buf start end)) lengths₀)
 
--- ch11_message(buf, start, end, number, message)
-abbrev pub GiveMessage : List ℕ → ℕ → ℕ → ℕ → ℕ → List ℕ → Type 0
-GiveMessage buf start end number = Holds (messageWords (messageTold (messagePacket buf start end number)))
+-- ch11_message(buf, start, end, base, number, message)
+abbrev pub GiveMessage : List ℕ → ℕ → ℕ → ℕ → ℕ → ℕ → List ℕ → Type 0
+GiveMessage buf start end base number = Holds (messageWords (messageTold (messagePacket buf start end base number)))
 
--- ch11_read_recording(buf, start, end, recording)
-abbrev pub ReadRecording : List ℕ → ℕ → ℕ → ℕ → List ℕ → Type 0
-ReadRecording buf start end = Holds (recordingWords (readRecording buf start end))
+-- ch11_read_recording(buf, start, end, base, recording)
+abbrev pub ReadRecording : List ℕ → ℕ → ℕ → ℕ → ℕ → List ℕ → Type 0
+ReadRecording buf start end base = Holds (recordingWords (readRecording buf start end base))
 
 -- ---- the writer
 

@@ -41,52 +41,52 @@ pub record Interface : Type 0 where
   -- struct ch11_packet: refusal, fields, lengths and sums, the five parts
   pub packet : (t : PacketTold)
       → packetWords t
-      ≡ t .refusal .number ∷ t .refusal .place ∷ t .refusal .room ∷ t .refusal .reason
+      ≡ t .refusal .number ∷ t .refusal .place ∷ t .refusal .room ∷ t .refusal .reason ∷ t .refusal .«recording_place»
       ∷ t .packet .fields .channel ∷ t .packet .fields .version ∷ t .packet .fields .sequence ∷ t .packet .fields .flags ∷ t .packet .fields .kind
       ∷ t .packet .fields .rtc ∷ t .packet .fields .time
-      ∷ t .packet .length ∷ t .packet .«data_length» ∷ t .packet .«header_sum» ∷ t .packet .«data_sum»
+      ∷ t .packet .length ∷ t .packet .«data_length» ∷ t .packet .«header_sum» ∷ t .packet .«data_sum» ∷ t .packet .«recording_place»
       ∷ t .packet .header .at ∷ t .packet .header .length ∷ t .packet .secondary .at ∷ t .packet .secondary .length
       ∷ t .packet .body .at ∷ t .packet .body .length ∷ t .packet .filler .at ∷ t .packet .filler .length ∷ t .packet .sum .at ∷ t .packet .sum .length ∷ []
   -- struct ch11_list, ch11_message, ch11_recording, ch11_written, ch11_draft: the refusal first
-  pub list : (t : ListTold) → listWords t ≡ t .refusal .number ∷ t .refusal .place ∷ t .refusal .room ∷ t .refusal .reason ∷ t .count ∷ []
+  pub list : (t : ListTold) → listWords t ≡ t .refusal .number ∷ t .refusal .place ∷ t .refusal .room ∷ t .refusal .reason ∷ t .refusal .«recording_place» ∷ t .count ∷ []
   pub message : (t : MessageTold)
       → messageWords t
-      ≡ t .refusal .number ∷ t .refusal .place ∷ t .refusal .room ∷ t .refusal .reason ∷ t .message .time ∷ t .message .id ∷ t .message .start ∷ t .message .length ∷ []
-  pub recording : (r : Recording) → recordingWords r ≡ r .refusal .number ∷ r .refusal .place ∷ r .refusal .room ∷ r .refusal .reason ∷ r .accepted ∷ r .reached ∷ []
-  pub written : (t : WriteTold) → writtenWords t ≡ t .refusal .number ∷ t .refusal .place ∷ t .refusal .room ∷ t .refusal .reason ∷ t .length ∷ []
+      ≡ t .refusal .number ∷ t .refusal .place ∷ t .refusal .room ∷ t .refusal .reason ∷ t .refusal .«recording_place» ∷ t .message .time ∷ t .message .id ∷ t .message .start ∷ t .message .length ∷ []
+  pub recording : (r : Recording) → recordingWords r ≡ r .refusal .number ∷ r .refusal .place ∷ r .refusal .room ∷ r .refusal .reason ∷ r .refusal .«recording_place» ∷ r .accepted ∷ r .reached ∷ r .«recording_reached» ∷ []
+  pub written : (t : WriteTold) → writtenWords t ≡ t .refusal .number ∷ t .refusal .place ∷ t .refusal .room ∷ t .refusal .reason ∷ t .refusal .«recording_place» ∷ t .length ∷ []
   pub draft : (t : StepTold)
       → draftWords t
-      ≡ t .refusal .number ∷ t .refusal .place ∷ t .refusal .room ∷ t .refusal .reason ∷ t .draft .used ∷ t .draft .blocks ∷ t .draft .kind ∷ t .draft .rule ∷ []
+      ≡ t .refusal .number ∷ t .refusal .place ∷ t .refusal .room ∷ t .refusal .reason ∷ t .refusal .«recording_place» ∷ t .draft .used ∷ t .draft .blocks ∷ t .draft .kind ∷ t .draft .rule ∷ []
   -- struct ch11_fields and ch11_draft, as they are given
   pub fields-given : (channel version sequence flags kind rtc time : ℕ)
       → fieldsOf (channel ∷ version ∷ sequence ∷ flags ∷ kind ∷ rtc ∷ time ∷ [])
       ≡ record { channel = channel; version = version; sequence = sequence; flags = flags; kind = kind; rtc = rtc; time = time }
-  pub draft-given : (number place room reason used blocks kind rule : ℕ)
-      → draftOf (number ∷ place ∷ room ∷ reason ∷ used ∷ blocks ∷ kind ∷ rule ∷ []) ≡ record { used = used; blocks = blocks; kind = kind; rule = rule }
+  pub draft-given : (number place room reason recorded used blocks kind rule : ℕ)
+      → draftOf (number ∷ place ∷ room ∷ reason ∷ recorded ∷ used ∷ blocks ∷ kind ∷ rule ∷ []) ≡ record { used = used; blocks = blocks; kind = kind; rule = rule }
   -- "First 17 (a value that its field can't hold; ..)"
   pub write-17 : (c : Contents) (room : ℕ) → ¬ Held (c .fields)
-      → writeTold (writeGiven c room) ≡ record { refusal = record { number = 17; place = 0; room = 0; reason = 0 }; length = 0 }
+      → writeTold (writeGiven c room) ≡ record { refusal = record { number = 17; place = 0; room = 0; reason = 0; «recording_place» = 0 }; length = 0 }
   -- else as the writer says
   pub writes : (c : Contents) (room : ℕ) → Held (c .fields) → writeGiven c room ≡ writePacket c room
   -- adding: an upper half that its 16 bits can't hold is 17, after 1
   pub add-17 : (d : Draft) (len time upper n : ℕ) → 65535 < upper → stepTold (addStep d len time n) .refusal .number ≢ 1
-      → stepTold (addGiven d len time upper n) ≡ record { refusal = record { number = 17; place = 0; room = 0; reason = 0 }; draft = d }
+      → stepTold (addGiven d len time upper n) ≡ record { refusal = record { number = 17; place = 0; room = 0; reason = 0; «recording_place» = 0 }; draft = d }
   pub add-1 : (d : Draft) (len time upper n : ℕ) → stepTold (addStep d len time n) .refusal .number ≡ 1
       → addGiven d len time upper n ≡ addStep d len time n
   -- else as adding says
   pub adds : (d : Draft) (len time upper n : ℕ) → upper ≤ 65535 → addGiven d len time upper n ≡ addStep d len time n
   -- ---- the calls: each answers as the one below it, of the same arguments
 
-  pub read-packet : (buf : List ℕ) (start end n : ℕ) (s : List ℕ) → Calls.ReadPacket buf start end n s
-      → Answers (packetTold (readPacket buf start end) .refusal .number) (packetWords (packetTold (readPacket buf start end))) n s
-  pub list-messages : (buf : List ℕ) (start end : ℕ) (starts₀ lengths₀ : List ℕ) (n : ℕ) (s starts₁ lengths₁ : List ℕ)
-      → Calls.ListMessages buf start end starts₀ lengths₀ n s starts₁ lengths₁
-      → (t : PacketList) × (t ≡ listPacket buf start end (length starts₀) (length lengths₀)) × Answers (listTold t .refusal .number) (listWords (listTold t)) n s
+  pub read-packet : (buf : List ℕ) (start end base n : ℕ) (s : List ℕ) → Calls.ReadPacket buf start end base n s
+      → Answers (packetTold (readPacket buf start end base) .refusal .number) (packetWords (packetTold (readPacket buf start end base))) n s
+  pub list-messages : (buf : List ℕ) (start end base : ℕ) (starts₀ lengths₀ : List ℕ) (n : ℕ) (s starts₁ lengths₁ : List ℕ)
+      → Calls.ListMessages buf start end base starts₀ lengths₀ n s starts₁ lengths₁
+      → (t : PacketList) × (t ≡ listPacket buf start end base (length starts₀) (length lengths₀)) × Answers (listTold t .refusal .number) (listWords (listTold t)) n s
       × (starts₁ ≡ listAfter t (starts (window buf start end)) starts₀) × (lengths₁ ≡ listAfter t (lengths (window buf start end)) lengths₀)
-  pub give-message : (buf : List ℕ) (start end number n : ℕ) (s : List ℕ) → Calls.GiveMessage buf start end number n s
-      → Answers (messageTold (messagePacket buf start end number) .refusal .number) (messageWords (messageTold (messagePacket buf start end number))) n s
-  pub read-recording : (buf : List ℕ) (start end n : ℕ) (s : List ℕ) → Calls.ReadRecording buf start end n s
-      → Answers (readRecording buf start end .refusal .number) (recordingWords (readRecording buf start end)) n s
+  pub give-message : (buf : List ℕ) (start end base number n : ℕ) (s : List ℕ) → Calls.GiveMessage buf start end base number n s
+      → Answers (messageTold (messagePacket buf start end base number) .refusal .number) (messageWords (messageTold (messagePacket buf start end base number))) n s
+  pub read-recording : (buf : List ℕ) (start end base n : ℕ) (s : List ℕ) → Calls.ReadRecording buf start end base n s
+      → Answers (readRecording buf start end base .refusal .number) (recordingWords (readRecording buf start end base)) n s
   pub write-packet : (fields body out₀ : List ℕ) (n : ℕ) (s out₁ : List ℕ) → Calls.WritePacket fields body out₀ n s out₁
       → (t : PacketWrite) × (t ≡ writeGiven (contents (fieldsOf fields) body) (length out₀)) × Answers (writeTold t .refusal .number) (writtenWords (writeTold t)) n s
       × (out₁ ≡ outAfter t out₀ (packetBytes (contents (fieldsOf fields) body)))

@@ -17,7 +17,7 @@ use Rattle.recording.specs.declared.Recording.{Recording}
 
 -- struct ch11_refusal, with which every other struct of a result begins
 abbrev pub refusalWords : Refusal → List ℕ
-refusalWords r = r .number ∷ r .place ∷ r .room ∷ r .reason ∷ []
+refusalWords r = r .number ∷ r .place ∷ r .room ∷ r .reason ∷ r .«recording_place» ∷ []
 
 -- its number of words
 abbrev pub refusalSize : ℕ
@@ -38,7 +38,7 @@ unfoldable pub packetWords : PacketTold → List ℕ
 packetWords t =
     refusalWords (t .refusal)
     ++ fieldsWords (t .packet .fields)
-    ++ (t .packet .length ∷ t .packet .«data_length» ∷ t .packet .«header_sum» ∷ t .packet .«data_sum» ∷ [])
+    ++ (t .packet .length ∷ t .packet .«data_length» ∷ t .packet .«header_sum» ∷ t .packet .«data_sum» ∷ t .packet .«recording_place» ∷ [])
     ++ partWords (t .packet .header)
     ++ partWords (t .packet .secondary)
     ++ partWords (t .packet .body)
@@ -55,7 +55,7 @@ messageWords t = refusalWords (t .refusal) ++ (t .message .time ∷ t .message .
 
 -- struct ch11_recording
 unfoldable pub recordingWords : Recording → List ℕ
-recordingWords r = refusalWords (r .refusal) ++ (r .accepted ∷ r .reached ∷ [])
+recordingWords r = refusalWords (r .refusal) ++ (r .accepted ∷ r .reached ∷ r .«recording_reached» ∷ [])
 
 -- struct ch11_written
 unfoldable pub writtenWords : WriteTold → List ℕ

@@ -34,11 +34,12 @@ pub extern "C" fn ch11_read_packet(
     buf: &[u8],
     start: usize,
     end: usize,
+    base: u64,
     packet: &mut [u64; PACKET],
 ) -> u64
-    ensures { λ r. ⌜ ReadPacket (now (buf .entry)) start end r (now (packet .exit)) ⌝ }
+    ensures { λ r. ⌜ ReadPacket (now (buf .entry)) start end base r (now (packet .exit)) ⌝ }
 {
-    match read_packet(buf, start, end) {
+    match read_packet(buf, start, end, base) {
         PacketRead::Accepted(p) => {
             *packet = packet_words(p);
             0
@@ -56,13 +57,14 @@ pub extern "C" fn ch11_list_messages(
     buf: &[u8],
     start: usize,
     end: usize,
+    base: u64,
     starts: &mut [u32],
     lengths: &mut [u32],
     list: &mut [u64; LIST],
 ) -> u64
-    ensures { λ r. ⌜ ListMessages (now (buf .entry)) start end (now (starts .entry)) (now (lengths .entry)) r (now (list .exit)) (now (starts .exit)) (now (lengths .exit)) ⌝ }
+    ensures { λ r. ⌜ ListMessages (now (buf .entry)) start end base (now (starts .entry)) (now (lengths .entry)) r (now (list .exit)) (now (starts .exit)) (now (lengths .exit)) ⌝ }
 {
-    *list = list_words(list_messages(buf, start, end, starts, lengths));
+    *list = list_words(list_messages(buf, start, end, base, starts, lengths));
     list[0]
 }
 
@@ -72,12 +74,13 @@ pub extern "C" fn ch11_message(
     buf: &[u8],
     start: usize,
     end: usize,
+    base: u64,
     number: usize,
     found: &mut [u64; MESSAGE],
 ) -> u64
-    ensures { λ r. ⌜ GiveMessage (now (buf .entry)) start end number r (now (found .exit)) ⌝ }
+    ensures { λ r. ⌜ GiveMessage (now (buf .entry)) start end base number r (now (found .exit)) ⌝ }
 {
-    *found = message_words(message(buf, start, end, number));
+    *found = message_words(message(buf, start, end, base, number));
     found[0]
 }
 
@@ -87,11 +90,12 @@ pub extern "C" fn ch11_read_recording(
     buf: &[u8],
     start: usize,
     end: usize,
+    base: u64,
     recording: &mut [u64; RECORDING],
 ) -> u64
-    ensures { λ r. ⌜ ReadRecording (now (buf .entry)) start end r (now (recording .exit)) ⌝ }
+    ensures { λ r. ⌜ ReadRecording (now (buf .entry)) start end base r (now (recording .exit)) ⌝ }
 {
-    *recording = recording_words(read_recording(buf, start, end));
+    *recording = recording_words(read_recording(buf, start, end, base));
     recording[0]
 }
 

@@ -19,17 +19,17 @@ use recording::Recording;
 use terms::Refusal;
 
 // The words of each struct of include/ch11.h.
-pub const REFUSAL: usize = 4;
+pub const REFUSAL: usize = 5;
 
 pub const FIELDS: usize = 7;
 
-pub const PACKET: usize = REFUSAL + FIELDS + 14;
+pub const PACKET: usize = REFUSAL + FIELDS + 15;
 
 pub const LIST: usize = REFUSAL + 1;
 
 pub const MESSAGE: usize = REFUSAL + 4;
 
-pub const RECORDING: usize = REFUSAL + 2;
+pub const RECORDING: usize = REFUSAL + 3;
 
 pub const WRITTEN: usize = REFUSAL + 1;
 
@@ -44,6 +44,7 @@ pub fn put_refusal(words: &mut [u64], f: Refusal)
     words[1] = f.place as u64;
     words[2] = f.room as u64;
     words[3] = f.reason as u64;
+    words[4] = f.recording_place;
 }
 
 // struct ch11_packet of an accepted packet.
@@ -51,6 +52,7 @@ pub fn packet_words(p: Packet) -> [u64; PACKET]
     ensures { λ r. ⌜ r ≡ packetWords (packetTold (Accepted p)) ⌝ }
 {
     [
+        0,
         0,
         0,
         0,
@@ -66,6 +68,7 @@ pub fn packet_words(p: Packet) -> [u64; PACKET]
         p.data_length as u64,
         p.header_sum as u64,
         p.data_sum as u64,
+        p.recording_place,
         p.header.at as u64,
         p.header.length as u64,
         p.secondary.at as u64,
@@ -134,6 +137,7 @@ pub fn recording_words(answer: Recording) -> [u64; RECORDING]
     put_refusal(&mut words, f);
     words[REFUSAL] = answer.accepted as u64;
     words[REFUSAL + 1] = answer.reached as u64;
+    words[REFUSAL + 2] = answer.recording_reached;
     words
 }
 
