@@ -9,9 +9,15 @@
  * or writes outside what it is lent, keeps nothing (so threads may call at the same time), allocates nothing and never fails otherwise
  * than by a refusal. It takes at most 1 KiB of stack, and the library needs no other, not even a C library.
  *
+ * Two kinds of places. A `place` and a part's `at` are counted from the buffer's first byte: buf[place]. A `recording_place` is counted from
+ * the recording's first byte, of which the buffer may hold any piece: with each window the caller gives a base, the place in the recording
+ * where the window starts, and the recording place is that base plus the distance from the window's start. Whoever has no use for it
+ * gives base 0 and has distances from the window's start. The base changes nothing else, save that base plus window length must not pass
+ * 2^64 - 1 (refusal 1).
+ *
  * Every result is written into a struct of 64-bit numbers, which needs no filling beforehand, save the builder's. Each call returns the
- * refusal's number, 0 for none; the struct begins with the same number. On a refusal all other results are 0, but for the place, the
- * room (of 16), the reason (of 15), the recording's two numbers and the builder's state; lists, buffers and outputs are then as they were.
+ * refusal's number, 0 for none; the struct begins with the same number. On a refusal all other results are 0, but for its two places, the
+ * room (of 16), the reason (of 15), the recording's three numbers and the builder's state; lists, buffers and outputs are then as they were.
  *
  * A length may be 0. Pointers must not be null, not even then; they must be aligned for their type and good for the length given, a
  * struct's for the struct. What a call may write to must not overlap anything else that the same call is lent.
@@ -22,11 +28,12 @@
  *     #include "ch11.h"
  *
  *     // Prints the channel of each packet in buf[0] to buf[filled - 1]; gives the refusal that ends it, of number 0 at the exact end.
- *     static struct ch11_refusal print_channels(const uint8_t *buf, size_t len, size_t filled)
+ *     // buf[0] is byte `base` of the recording; the base moves on with the packets.
+ *     static struct ch11_refusal print_channels(const uint8_t *buf, size_t len, size_t filled, uint64_t base)
  *     {
  *         struct ch11_packet packet = {0};
  *         for (size_t at = 0; at < filled; at += packet.length) {
- *             if (ch11_read_packet(buf, len, at, filled, &packet) != CH11_NONE) {
+ *             if (ch11_read_packet(buf, len, at, filled, base + at, &packet) != CH11_NONE) {
  *                 break;
  *             }
  *             printf("%llu\n", (unsigned long long)packet.fields.channel);
@@ -48,8 +55,9 @@ extern "C" {
 
 enum {
     CH11_NONE = 0,
-    CH11_STATE = 1,          /* the window or a builder's used count is outside its buffer; or that count is under 4, or the builder's
-                                state has a type or time rule that opening refuses, or over 65,535 blocks in 0x30 */
+    CH11_STATE = 1,          /* the window or a builder's used count is outside its buffer; or base plus window length passes 2^64 - 1; or
+                                that count is under 4, or the builder's state has a type or time rule that opening refuses, or over
+                                65,535 blocks in 0x30 */
     CH11_SHORT = 2,          /* fewer than 24 bytes in the window */
     CH11_SYNC = 3,           /* wrong sync */
     CH11_HEADER_SUM = 4,     /* wrong header sum */
@@ -91,6 +99,8 @@ struct ch11_refusal {
                         of the block at fault, of the bytes left over, or where a missing block should begin. Writer and builder: 0 */
     uint64_t room;   /* for 16: the messages, or the bytes of the whole packet or body, that need room; else 0 */
     uint64_t reason; /* for 15: the rule broken, CH11_REASON_..; else 0 */
+    uint64_t recording_place; /* the same byte as `place`, counted from the recording's first byte: the base given plus `place` minus
+                                 the window's start; for 1 the base. Writer and builder: 0 */
 };
 
 /* ---- one packet */
@@ -122,16 +132,17 @@ struct ch11_packet {
     uint64_t data_length; /* data length D: the body; at least 1 */
     uint64_t header_sum;  /* as stored */
     uint64_t data_sum;    /* as stored; 0 without one */
-    struct ch11_part header; /* `header.at` is the packet's first byte */
+    uint64_t recording_place; /* the packet's first byte, counted from the recording's first byte: the base given */
+    struct ch11_part header; /* `header.at` is the packet's first byte, counted from the buffer's */
     struct ch11_part secondary;
     struct ch11_part body;
     struct ch11_part filler;
     struct ch11_part sum;
 };
 
-/* Reads the packet at the window's start; the window may go on behind it. The next packet, if any, begins at start + length.
- * The reader's refusals. */
-uint64_t ch11_read_packet(const uint8_t *buf, size_t len, size_t start, size_t end, struct ch11_packet *packet);
+/* Reads the packet at the window's start; the window may go on behind it. The next packet, if any, begins at start + length, and its base
+ * is base + length. The reader's refusals. */
+uint64_t ch11_read_packet(const uint8_t *buf, size_t len, size_t start, size_t end, uint64_t base, struct ch11_packet *packet);
 
 /* ---- the messages of a packet */
 
@@ -151,8 +162,8 @@ struct ch11_list {
  * and the length of message k. Entries past the count are untouched. The reader's refusals, then 16 where there are more messages than
  * the shorter list holds. To count the messages beforehand, lend lists of length 0: the count is the room that 16 gives, or 0 without
  * a refusal. */
-uint64_t ch11_list_messages(const uint8_t *buf, size_t len, size_t start, size_t end, uint32_t *starts, size_t starts_len,
-                            uint32_t *lengths, size_t lengths_len, struct ch11_list *list);
+uint64_t ch11_list_messages(const uint8_t *buf, size_t len, size_t start, size_t end, uint64_t base, uint32_t *starts,
+                            size_t starts_len, uint32_t *lengths, size_t lengths_len, struct ch11_list *list);
 
 struct ch11_message {
     struct ch11_refusal refusal;
@@ -165,7 +176,8 @@ struct ch11_message {
 /* Gives one message of the packet at the window's start, by its number from 0. The reader's refusals, then 17 where there is none, as
  * always in a type that isn't opened. Each call reads the packet anew; where starts and lengths are enough, one call of
  * ch11_list_messages gives those of all messages. */
-uint64_t ch11_message(const uint8_t *buf, size_t len, size_t start, size_t end, size_t number, struct ch11_message *message);
+uint64_t ch11_message(const uint8_t *buf, size_t len, size_t start, size_t end, uint64_t base, size_t number,
+                      struct ch11_message *message);
 
 /* ---- a recording */
 
@@ -173,11 +185,14 @@ struct ch11_recording {
     struct ch11_refusal refusal; /* of the packet that ended the reading; 0 at the exact end */
     uint64_t accepted;           /* packets accepted; given with a refusal too */
     uint64_t reached;            /* the refused packet's first byte (for 1 the start as given), or the end; given with a refusal too */
+    uint64_t recording_reached;  /* the same byte as `reached`, counted from the recording's first byte: what to give as the next
+                                    window's base to read on from there */
 };
 
 /* Reads the packets of a window, each at the end of the one before; the first that is refused ends the reading. The reader's refusals. An
  * empty window within its buffer holds no packets and isn't refused. */
-uint64_t ch11_read_recording(const uint8_t *buf, size_t len, size_t start, size_t end, struct ch11_recording *recording);
+uint64_t ch11_read_recording(const uint8_t *buf, size_t len, size_t start, size_t end, uint64_t base,
+                             struct ch11_recording *recording);
 
 /* ---- the writer */
 

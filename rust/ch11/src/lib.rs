@@ -11,16 +11,20 @@
 //! may be filled in part: what stands behind `end` has no say. A window that isn't within the
 //! buffer is refused ([`Number::State`]); it is no panic.
 //!
+//! A buffer may hold any piece of a recording. Each reader is given a base too, the place in the
+//! recording where the window starts: every packet and refusal then has a `recording_place`, counted
+//! from the recording's first byte, beside its place in the buffer. Whoever has no use for it gives 0.
+//!
 //! ```
 //! fn main() -> Result<(), ch11::Refusal> {
 //!     // One UART packet of 40 bytes, and three bytes that aren't filled yet.
 //!     let buf = b"\x25\xEB\x01\0\x28\0\0\0\x0C\0\0\0\x06\0\x02\x50\x01\0\0\0\0\0\x63\x3B\
 //!                 \0\0\0\0\x03\0\0\0ABC\0\0\0\x87\x42???";
 //!     let filled = 40;
-//!     for packet in ch11::packets(buf, 0, filled) {
+//!     for packet in ch11::packets(buf, 0, filled, 0) {
 //!         let packet = packet?;
 //!         assert_eq!((packet.fields.channel, packet.fields.kind), (1, ch11::UART));
-//!         for message in ch11::messages(buf, packet.header.at, filled)? {
+//!         for message in ch11::messages(buf, packet.header.at, filled, packet.recording_place)? {
 //!             assert_eq!(message, b"ABC");
 //!         }
 //!     }

@@ -1,5 +1,6 @@
 //! The messages of a packet. Each call reads the packet at the start of the window
 //! `buf[start..end]` whole, with all its tests; a packet whose type isn't opened has no messages.
+//! `base` is where the window starts in the recording; only a refusal's place there rests on it.
 
 use crate::raw;
 use crate::refusal::{unless_refused, Number, Refusal};
@@ -14,18 +15,21 @@ pub fn list_messages(
     buf: &[u8],
     start: usize,
     end: usize,
+    base: u64,
     starts: &mut [u32],
     lengths: &mut [u32],
 ) -> Result<usize, Refusal> {
     let mut list = raw::List::default();
     // SAFETY: the pointers and lengths are those of the three slices, which can't overlap as the two
-    // lists are borrowed alone; `list` is our own. Any start and end do.
+    // lists are borrowed alone; `list` is our own. Any start, end and base
+    // do.
     unsafe {
         raw::ch11_list_messages(
             buf.as_ptr(),
             buf.len(),
             start,
             end,
+            base,
             starts.as_mut_ptr(),
             starts.len(),
             lengths.as_mut_ptr(),
@@ -37,8 +41,8 @@ pub fn list_messages(
 }
 
 /// The number of messages in the packet at the start of the window `buf[start..end]`.
-pub fn message_count(buf: &[u8], start: usize, end: usize) -> Result<usize, Refusal> {
-    match list_messages(buf, start, end, &mut [], &mut []) {
+pub fn message_count(buf: &[u8], start: usize, end: usize, base: u64) -> Result<usize, Refusal> {
+    match list_messages(buf, start, end, base, &mut [], &mut []) {
         Err(refusal) if refusal.number == Number::Room => Ok(refusal.room),
         counted => counted,
     }
@@ -48,10 +52,10 @@ pub fn message_count(buf: &[u8], start: usize, end: usize) -> Result<usize, Refu
 ///
 /// The packet is read twice, to count and to list, and 8 bytes are allocated for each message: the
 /// cost grows with the packet's length. For a message's time and ID word, see [`message`].
-pub fn messages(buf: &[u8], start: usize, end: usize) -> Result<Messages<'_>, Refusal> {
-    let count = message_count(buf, start, end)?;
+pub fn messages(buf: &[u8], start: usize, end: usize, base: u64) -> Result<Messages<'_>, Refusal> {
+    let count = message_count(buf, start, end, base)?;
     let (mut starts, mut lengths) = (vec![0; count], vec![0; count]);
-    list_messages(buf, start, end, &mut starts, &mut lengths)?;
+    list_messages(buf, start, end, base, &mut starts, &mut lengths)?;
     // The packet was accepted, so that its start is within the buffer.
     let packet = &buf[start..];
     Ok(Messages {
@@ -109,12 +113,23 @@ pub fn message(
     buf: &[u8],
     start: usize,
     end: usize,
+    base: u64,
     number: usize,
 ) -> Result<Message<'_>, Refusal> {
     let mut found = raw::Message::default();
-    // SAFETY: the pointer and length are those of `buf`; `found` is our own. Any start, end and
-    // number do.
-    unsafe { raw::ch11_message(buf.as_ptr(), buf.len(), start, end, number, &mut found) };
+    // SAFETY: the pointer and length are those of `buf`; `found` is our own. Any start, end, base
+    // and number do.
+    unsafe {
+        raw::ch11_message(
+            buf.as_ptr(),
+            buf.len(),
+            start,
+            end,
+            base,
+            number,
+            &mut found,
+        )
+    };
     unless_refused(found.refusal, ())?;
     Ok(Message {
         time: found.time,

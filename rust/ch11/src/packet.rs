@@ -56,7 +56,9 @@ pub struct Packet {
     pub header_sum: u16,
     /// Data sum as stored; 0 without one.
     pub data_sum: u32,
-    /// Primary header; `header.at` is the packet's first byte.
+    /// The packet's first byte, counted from the recording's first byte: the base given.
+    pub recording_place: u64,
+    /// Primary header; `header.at` is the packet's first byte, counted from the buffer's.
     pub header: Part,
     /// Secondary header.
     pub secondary: Part,
@@ -89,6 +91,7 @@ fn packet_of(packet: &raw::Packet) -> Packet {
         data_length: packet.data_length as usize,
         header_sum: packet.header_sum as u16,
         data_sum: packet.data_sum as u32,
+        recording_place: packet.recording_place,
         header: part(packet.header),
         secondary: part(packet.secondary),
         body: part(packet.body),
@@ -98,20 +101,24 @@ fn packet_of(packet: &raw::Packet) -> Packet {
 }
 
 /// Reads the packet at the start of the window `buf[start..end]`; the window may go on behind it.
-pub fn read_packet(buf: &[u8], start: usize, end: usize) -> Result<Packet, Refusal> {
+/// `base` is where the window starts in the recording.
+pub fn read_packet(buf: &[u8], start: usize, end: usize, base: u64) -> Result<Packet, Refusal> {
     let mut packet = raw::Packet::default();
-    // SAFETY: the pointer and length are those of `buf`; `packet` is our own. Any start and end do.
-    unsafe { raw::ch11_read_packet(buf.as_ptr(), buf.len(), start, end, &mut packet) };
+    // SAFETY: the pointer and length are those of `buf`; `packet` is our own. Any start, end and base
+    // do.
+    unsafe { raw::ch11_read_packet(buf.as_ptr(), buf.len(), start, end, base, &mut packet) };
     unless_refused(packet.refusal, packet_of(&packet))
 }
 
 /// The packets of the window `buf[start..end]`, each at the end of the one before. The first refusal
 /// is the last item; without one the packets fill the window exactly. An empty window has none.
-pub fn packets(buf: &[u8], start: usize, end: usize) -> Packets<'_> {
+/// `base` is where the window starts in the recording; it moves on with the packets.
+pub fn packets(buf: &[u8], start: usize, end: usize, base: u64) -> Packets<'_> {
     Packets {
         buf,
         at: start,
         end,
+        base,
         ended: false,
     }
 }
@@ -123,6 +130,8 @@ pub struct Packets<'a> {
     /// Where the next packet begins.
     at: usize,
     end: usize,
+    /// Where it begins in the recording.
+    base: u64,
     /// A refusal was handed out.
     ended: bool,
 }
@@ -135,9 +144,12 @@ impl Iterator for Packets<'_> {
         if self.ended || exact_end {
             return None;
         }
-        let item = read_packet(self.buf, self.at, self.end);
+        let item = read_packet(self.buf, self.at, self.end, self.base);
         match &item {
-            Ok(packet) => self.at += packet.length,
+            Ok(packet) => {
+                self.at += packet.length;
+                self.base += packet.length as u64;
+            }
             Err(_) => self.ended = true,
         }
         Some(item)
@@ -153,18 +165,24 @@ pub struct Recording {
     pub accepted: usize,
     /// The place reached: the first byte of the refused packet, or the window's end.
     pub reached: usize,
+    /// The same byte as `reached`, counted from the recording's first byte: the base of a window that
+    /// is to read on from there.
+    pub recording_reached: u64,
     /// The refusal that ended the reading; `None` at the exact end.
     pub refusal: Option<Refusal>,
 }
 
 /// Reads all packets of the window `buf[start..end]`, as [`packets`] does, and says how far it came.
-pub fn read_recording(buf: &[u8], start: usize, end: usize) -> Recording {
+/// `base` is where the window starts in the recording.
+pub fn read_recording(buf: &[u8], start: usize, end: usize, base: u64) -> Recording {
     let mut recording = raw::Recording::default();
-    // SAFETY: the pointer and length are those of `buf`; `recording` is our own. Any start and end do.
-    unsafe { raw::ch11_read_recording(buf.as_ptr(), buf.len(), start, end, &mut recording) };
+    // SAFETY: the pointer and length are those of `buf`; `recording` is our own. Any start, end and
+    // base do.
+    unsafe { raw::ch11_read_recording(buf.as_ptr(), buf.len(), start, end, base, &mut recording) };
     Recording {
         accepted: recording.accepted as usize,
         reached: recording.reached as usize,
+        recording_reached: recording.recording_reached,
         refusal: refused(recording.refusal),
     }
 }

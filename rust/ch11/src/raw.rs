@@ -8,6 +8,7 @@ pub struct Refusal {
     pub place: u64,
     pub room: u64,
     pub reason: u64,
+    pub recording_place: u64,
 }
 
 /// `struct ch11_fields`
@@ -41,6 +42,7 @@ pub struct Packet {
     pub data_length: u64,
     pub header_sum: u64,
     pub data_sum: u64,
+    pub recording_place: u64,
     pub header: Part,
     pub secondary: Part,
     pub body: Part,
@@ -74,6 +76,7 @@ pub struct Recording {
     pub refusal: Refusal,
     pub accepted: u64,
     pub reached: u64,
+    pub recording_reached: u64,
 }
 
 /// `struct ch11_written`
@@ -101,6 +104,7 @@ extern "C" {
         len: usize,
         start: usize,
         end: usize,
+        base: u64,
         packet: *mut Packet,
     ) -> u64;
 
@@ -109,6 +113,7 @@ extern "C" {
         len: usize,
         start: usize,
         end: usize,
+        base: u64,
         starts: *mut u32,
         starts_len: usize,
         lengths: *mut u32,
@@ -121,6 +126,7 @@ extern "C" {
         len: usize,
         start: usize,
         end: usize,
+        base: u64,
         number: usize,
         message: *mut Message,
     ) -> u64;
@@ -130,6 +136,7 @@ extern "C" {
         len: usize,
         start: usize,
         end: usize,
+        base: u64,
         recording: *mut Recording,
     ) -> u64;
 

@@ -9,8 +9,9 @@ use std::fmt;
 #[derive(Clone, Copy, Debug, PartialEq, Eq, Hash)]
 #[non_exhaustive]
 pub enum Number {
-    /// 1: the window or a builder's used count is outside its buffer; or that count is under 4, or
-    /// the builder's state has a type or time rule that opening refuses, or too many blocks.
+    /// 1: the window or a builder's used count is outside its buffer; or base plus window length
+    /// passes 2^64 - 1; or that count is under 4, or the builder's state has a type or time rule that
+    /// opening refuses, or too many blocks.
     State,
     /// 2: fewer than 24 bytes in the window.
     Short,
@@ -150,13 +151,21 @@ pub struct Refusal {
     pub room: usize,
     /// With [`Number::Layout`] why: the rule broken. Else `None`.
     pub reason: Option<Reason>,
+    /// The same byte as `place`, counted from the recording's first byte: the base given plus the
+    /// distance from the window's start. The writer and the builder give 0.
+    pub recording_place: u64,
 }
 
-/// Which, where, what and why: `15 at 68: body breaks its layout: block cut short`.
+/// Which, where, what and why: `15 at 68: body breaks its layout: block cut short`. Where the place in
+/// the recording is another number: `15 at 68 (1068 in the recording): ..`.
 impl fmt::Display for Refusal {
     fn fmt(&self, f: &mut fmt::Formatter<'_>) -> fmt::Result {
         let (number, place) = (self.number.value(), self.place);
-        write!(f, "{number} at {place}: {}", self.number)?;
+        write!(f, "{number} at {place}")?;
+        if self.recording_place != place as u64 {
+            write!(f, " ({} in the recording)", self.recording_place)?;
+        }
+        write!(f, ": {}", self.number)?;
         if let Some(reason) = self.reason {
             write!(f, ": {reason}")?;
         }
@@ -181,6 +190,7 @@ pub(crate) fn refused(refusal: raw::Refusal) -> Option<Refusal> {
                 0 => None,
                 reason => Some(Reason::from_value(reason)),
             },
+            recording_place: refusal.recording_place,
         }),
     }
 }

@@ -8,11 +8,14 @@ use crate::{Draft, Refusal};
 const MOST_BLOCKS: u64 = 65_535;
 
 /// A refused step: "For the writer and builder the place is 0", and "a
-/// builder's step hands back the state it was given".
+/// builder's step hands back the state it was given". Request 9: "a base that
+/// the caller gives, plus the distance from the window's start": no step has
+/// either, so that the place in the recording is 0 too.
 fn refuse(number: u64, room: u64, draft: Draft) -> (Refusal, Draft) {
     let refusal = Refusal {
         number,
         place: 0,
+        recording_place: 0,
         room,
         reason: NO_REASON,
     };
@@ -22,13 +25,8 @@ fn refuse(number: u64, room: u64, draft: Draft) -> (Refusal, Draft) {
 /// A step refused with 15, which names the rule broken. Request 2: "Lister,
 /// recording reader, builder and writer pass it on."
 fn refuse_body(reason: u64, draft: Draft) -> (Refusal, Draft) {
-    let refusal = Refusal {
-        number: WRONG_BODY,
-        place: 0,
-        room: 0,
-        reason,
-    };
-    (refusal, draft)
+    let (refusal, draft) = refuse(WRONG_BODY, 0, draft);
+    (Refusal { reason, ..refusal }, draft)
 }
 
 /// A step that is done.

@@ -1,10 +1,15 @@
 //! A second program for the rules of document 01 and of the change request's
-//! section 2 (layout refusals say why): a reader for one packet, a lister of
-//! the messages in a packet, a reader for a whole recording, a body builder, a
-//! packet writer and the listing.
+//! sections 2 (layout refusals say why) and 9 (places in the recording): a
+//! reader for one packet, a lister of the messages in a packet, a reader for a
+//! whole recording, a body builder, a packet writer and the listing.
 //!
 //! Sentences in quotation marks are those of document 01, or of the request
-//! where "Request 2:" stands ahead of them. The request outranks document 01.
+//! where "Request 2:" or "Request 9:" stands ahead of them. The request
+//! outranks document 01.
+//!
+//! The four calls that read take a base behind the window: the place in the
+//! recording of the window's first byte. Request 9: "Recordings run to hundreds
+//! of gigabytes, our windows don't."
 
 #![forbid(unsafe_code)]
 
@@ -26,10 +31,18 @@ pub use writer::write_packet;
 /// "1 channel word (or under 4 bytes), 2 block cut short, 3 time, 4 length
 /// zero, 5 pad not zero, 6 bytes after the counted blocks, 7 body ends where a
 /// block must begin"; "all others have reason 0".
+///
+/// Request 9: "each refusal now carries a 64-bit place in the recording: a base
+/// that the caller gives, plus the distance from the window's start". It is the
+/// same byte as `place`: for a packet at the window's start the base itself,
+/// save for 15. The writer's and the builder's is 0, as their place is: they
+/// have no window and no base. Without a refusal there is no place: both are 0.
 #[derive(Clone, Copy, Debug, PartialEq, Eq, Default)]
 pub struct Refusal {
     pub number: u64,
+    /// Counted from the buffer's first byte.
     pub place: u64,
+    pub recording_place: u64,
     pub room: u64,
     pub reason: u64,
 }
@@ -59,6 +72,10 @@ pub struct Part {
 #[derive(Clone, Copy, Debug, PartialEq, Eq, Default)]
 pub struct Packet {
     pub fields: Fields,
+    /// Request 9: "Each packet's record [...] now carries a 64-bit place in the
+    /// recording": that of its first byte. The places of its parts stay counted
+    /// from the buffer's first byte.
+    pub recording_place: u64,
     /// P.
     pub length: u64,
     /// D.
@@ -90,7 +107,10 @@ pub struct Message {
 pub struct Recording {
     pub refusal: Refusal,
     pub accepted: u64,
+    /// Counted from the buffer's first byte.
     pub reached: u64,
+    /// The place reached, as a place in the recording.
+    pub recording_reached: u64,
 }
 
 /// The builder's state: bytes used, blocks added, type and time rule.

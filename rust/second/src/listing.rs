@@ -15,7 +15,8 @@ fn line(output: &mut Vec<u8>, key: &str, number: u64) {
 /// The lines of one accepted packet.
 fn packet_lines(output: &mut Vec<u8>, number: u64, packet: &Packet, messages: &[Message]) {
     line(output, "packet", number);
-    line(output, "at", packet.header.at);
+    // Request 9: "Listings follow": the place in the recording.
+    line(output, "at", packet.recording_place);
     line(output, "length", packet.length);
     line(output, "channel", packet.fields.channel);
     line(output, "type", packet.fields.kind);
@@ -40,12 +41,16 @@ pub fn listing(input: &[u8]) -> Vec<u8> {
         line(&mut output, "answer", OUTSIDE_BUFFER);
         return output;
     }
-    let recording = read_recording(input, 0, input.len());
+    // Standard input is the recording from its first byte on: start and base
+    // are both 0, and each place in the buffer is that place in the recording.
+    let recording = read_recording(input, 0, input.len(), 0);
     let mut at = 0;
     for number in 0..recording.accepted {
         // "the one-packet reader, at each of those places with the same end,
-        // gives that packet"
-        if let Ok((packet, messages)) = read_with_messages(input, at, input.len()) {
+        // gives that packet". Request 9: "the one-packet reader's base is moved
+        // on by the distance from the window's start"
+        let answer = read_with_messages(input, at, input.len(), at as u64);
+        if let Ok((packet, messages)) = answer {
             packet_lines(&mut output, number, &packet, &messages);
             at += packet.length as usize;
         }

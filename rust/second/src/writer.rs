@@ -5,10 +5,13 @@ use crate::rules::*;
 use crate::{Fields, Refusal};
 
 /// The refusal with this number. "For the writer and builder the place is 0."
+/// Request 9: "a base that the caller gives, plus the distance from the window's
+/// start": the writer has neither, so that the place in the recording is 0 too.
 fn refuse(number: u64) -> Refusal {
     Refusal {
         number,
         place: 0,
+        recording_place: 0,
         room: 0,
         reason: NO_REASON,
     }
@@ -66,19 +69,15 @@ pub fn write_packet(fields: &Fields, body: &[u8], out: &mut [u8]) -> Result<u64,
     // Request 2: "Lister, recording reader, builder and writer pass it on."
     if let Err(fault) = read_body(kind, message_rule(flags), body) {
         return Err(Refusal {
-            number: WRONG_BODY,
-            place: 0,
-            room: 0,
             reason: fault.reason,
+            ..refuse(WRONG_BODY)
         });
     }
     // "then 16", with the room for the whole packet.
     if length > out.len() as u64 {
         return Err(Refusal {
-            number: NO_ROOM,
-            place: 0,
             room: length,
-            reason: NO_REASON,
+            ..refuse(NO_ROOM)
         });
     }
 

@@ -1,5 +1,7 @@
 //! Case L and the lines of "Both sides of the line", with the places of
-//! refusals and the lists.
+//! refusals and the lists. The base is the window's start throughout: each
+//! buffer is the recording from its first byte on, and both places of a refusal
+//! are one number.
 
 mod common;
 
@@ -14,6 +16,7 @@ fn refusal(number: u64, place: u64, room: u64) -> Refusal {
     Refusal {
         number,
         place,
+        recording_place: place,
         room,
         reason: 0,
     }
@@ -24,6 +27,7 @@ fn layout(place: u64, reason: u64) -> Refusal {
     Refusal {
         number: 15,
         place,
+        recording_place: place,
         room: 0,
         reason,
     }
@@ -46,7 +50,7 @@ fn fields_l() -> Fields {
 }
 
 fn read(bytes: &[u8]) -> Result<Packet, Refusal> {
-    read_packet(bytes, 0, bytes.len())
+    read_packet(bytes, 0, bytes.len(), 0)
 }
 
 fn write(fields: &Fields, body: &[u8]) -> Vec<u8> {
@@ -84,29 +88,30 @@ fn case_l_is_listed() {
 #[test]
 fn case_l_cut_short() {
     assert_eq!(read(&CASE_L[..39]), Err(refusal(10, 0, 0)));
-    assert_eq!(read_packet(&CASE_L, 0, 39), Err(refusal(10, 0, 0)));
+    assert_eq!(read_packet(&CASE_L, 0, 39, 0), Err(refusal(10, 0, 0)));
     assert_eq!(read(&CASE_L[..23]), Err(refusal(2, 0, 0)));
     assert_eq!(read(&[]), Err(refusal(2, 0, 0)));
-    assert_eq!(read_packet(&CASE_L, 40, 40), Err(refusal(2, 40, 0)));
+    assert_eq!(read_packet(&CASE_L, 40, 40, 40), Err(refusal(2, 40, 0)));
 }
 
 #[test]
 fn windows_outside_the_buffer() {
-    assert_eq!(read_packet(&CASE_L, 0, 41), Err(refusal(1, 0, 0)));
-    assert_eq!(read_packet(&CASE_L, 2, 1), Err(refusal(1, 2, 0)));
+    assert_eq!(read_packet(&CASE_L, 0, 41, 0), Err(refusal(1, 0, 0)));
+    assert_eq!(read_packet(&CASE_L, 2, 1, 2), Err(refusal(1, 2, 0)));
     let far = usize::MAX;
     assert_eq!(
-        read_packet(&CASE_L, far, far),
+        read_packet(&CASE_L, far, far, far as u64),
         Err(refusal(1, far as u64, 0))
     );
     assert_eq!(
-        message(&CASE_L, far, 0, far),
+        message(&CASE_L, far, 0, far as u64, far),
         Err(refusal(1, far as u64, 0))
     );
-    let recording = read_recording(&CASE_L, 41, 41);
+    let recording = read_recording(&CASE_L, 41, 41, 41);
     assert_eq!(recording.refusal, refusal(1, 41, 0));
     assert_eq!(recording.accepted, 0);
     assert_eq!(recording.reached, 41);
+    assert_eq!(recording.recording_reached, 41);
 }
 
 #[test]
@@ -342,7 +347,7 @@ fn message_faults() {
         }
         let mut buffer = vec![0x25; 5];
         buffer.extend_from_slice(&by_hand(0x30, 0, &body));
-        let answer = read_packet(&buffer, 5, buffer.len());
+        let answer = read_packet(&buffer, 5, buffer.len(), 5);
         if place == 0 {
             assert!(answer.is_ok());
         } else {
@@ -360,7 +365,7 @@ fn lists_and_messages() {
     let mut starts = [99; 3];
     let mut lengths = [98; 4];
     assert_eq!(
-        list_messages(&buffer, 3, end, &mut starts, &mut lengths),
+        list_messages(&buffer, 3, end, 3, &mut starts, &mut lengths),
         Ok(2)
     );
     assert_eq!(starts, [32, 38, 99]);
@@ -368,7 +373,7 @@ fn lists_and_messages() {
 
     let mut short = [97; 1];
     assert_eq!(
-        list_messages(&buffer, 3, end, &mut short, &mut lengths),
+        list_messages(&buffer, 3, end, 3, &mut short, &mut lengths),
         Err(refusal(16, 3, 2))
     );
     assert_eq!(short, [97]);
@@ -380,19 +385,22 @@ fn lists_and_messages() {
         start: 32,
         length: 1,
     };
-    assert_eq!(message(&buffer, 3, end, 0), Ok(first));
-    assert_eq!(message(&buffer, 3, end, 1).unwrap().start, 38);
-    assert_eq!(message(&buffer, 3, end, 2), Err(refusal(17, 3, 0)));
-    assert_eq!(message(&buffer, 3, end, usize::MAX), Err(refusal(17, 3, 0)));
+    assert_eq!(message(&buffer, 3, end, 3, 0), Ok(first));
+    assert_eq!(message(&buffer, 3, end, 3, 1).unwrap().start, 38);
+    assert_eq!(message(&buffer, 3, end, 3, 2), Err(refusal(17, 3, 0)));
+    assert_eq!(
+        message(&buffer, 3, end, 3, usize::MAX),
+        Err(refusal(17, 3, 0))
+    );
 
     // A type that isn't opened.
     let carried = by_hand(0x38, 0, &body);
     assert_eq!(
-        list_messages(&carried, 0, carried.len(), &mut [], &mut []),
+        list_messages(&carried, 0, carried.len(), 0, &mut [], &mut []),
         Ok(0)
     );
     assert_eq!(
-        message(&carried, 0, carried.len(), 0),
+        message(&carried, 0, carried.len(), 0, 0),
         Err(refusal(17, 0, 0))
     );
 }
@@ -405,26 +413,30 @@ fn recordings() {
         refusal: refusal(0, 0, 0),
         accepted: 2,
         reached: 80,
+        recording_reached: 80,
     };
-    assert_eq!(read_recording(&buffer, 0, 80), whole);
+    assert_eq!(read_recording(&buffer, 0, 80, 0), whole);
     let cut = Recording {
         refusal: refusal(10, 40, 0),
         accepted: 1,
         reached: 40,
+        recording_reached: 40,
     };
-    assert_eq!(read_recording(&buffer, 0, 79), cut);
+    assert_eq!(read_recording(&buffer, 0, 79, 0), cut);
     let empty = Recording {
         refusal: refusal(0, 0, 0),
         accepted: 0,
         reached: 80,
+        recording_reached: 80,
     };
-    assert_eq!(read_recording(&buffer, 80, 80), empty);
+    assert_eq!(read_recording(&buffer, 80, 80, 80), empty);
     let second_alone = Recording {
         refusal: refusal(0, 0, 0),
         accepted: 1,
         reached: 80,
+        recording_reached: 80,
     };
-    assert_eq!(read_recording(&buffer, 40, 80), second_alone);
+    assert_eq!(read_recording(&buffer, 40, 80, 40), second_alone);
 }
 
 #[test]

@@ -9,6 +9,7 @@ const fn refusal(number: u64, room: u64) -> Refusal {
     Refusal {
         number,
         place: 0,
+        recording_place: 0,
         room,
         reason: 0,
     }
@@ -19,6 +20,7 @@ const fn layout(reason: u64) -> Refusal {
     Refusal {
         number: 15,
         place: 0,
+        recording_place: 0,
         room: 0,
         reason,
     }
@@ -70,17 +72,17 @@ fn build_write_and_read_back() {
             };
             let mut out = vec![0; 1100];
             let length = write_packet(&fields, &buf[..used], &mut out).unwrap() as usize;
-            let packet = read_packet(&out, 0, length).unwrap();
+            let packet = read_packet(&out, 0, length, 0).unwrap();
             assert_eq!(packet.fields, fields);
             assert_eq!(packet.data_length, closed.used);
             let mut starts = [0; 20];
             let mut lengths = [0; 20];
             assert_eq!(
-                list_messages(&out, 0, length, &mut starts, &mut lengths),
+                list_messages(&out, 0, length, 0, &mut starts, &mut lengths),
                 Ok(20)
             );
             for i in 1..=20u64 {
-                let read = message(&out, 0, length, i as usize - 1).unwrap();
+                let read = message(&out, 0, length, 0, i as usize - 1).unwrap();
                 assert_eq!(read.time, if rule == 0 { 0 } else { i << 16 });
                 assert_eq!(read.id, ((0xFFFF - i) << 16) + i);
                 assert_eq!(read.length, i);
@@ -278,10 +280,10 @@ fn ten_thousand_messages() {
     let length = write_packet(&fields, &buf[..closed.used as usize], &mut out).unwrap();
     let mut starts = vec![0; 10_000];
     let mut lengths = vec![0; 10_000];
-    let count = list_messages(&out, 0, length as usize, &mut starts, &mut lengths);
+    let count = list_messages(&out, 0, length as usize, 0, &mut starts, &mut lengths);
     assert_eq!(count, Ok(10_000));
     assert_eq!(
-        message(&out, 0, length as usize, 9_999).unwrap().time,
+        message(&out, 0, length as usize, 0, 9_999).unwrap().time,
         9_999
     );
 }

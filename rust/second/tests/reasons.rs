@@ -1,7 +1,9 @@
 //! Refusal 15 says why. Request 2: "1 channel word (or under 4 bytes), 2 block
 //! cut short, 3 time, 4 length zero, 5 pad not zero, 6 bytes after the counted
 //! blocks, 7 body ends where a block must begin". Both sides of each line, for
-//! every call that can give 15; and all others have reason 0.
+//! every call that can give 15; and all others have reason 0. The base is the
+//! window's start throughout: each buffer is the recording from its first byte
+//! on, and both places of a refusal are one number.
 
 mod common;
 
@@ -81,6 +83,7 @@ fn refusal(number: u64, place: u64, reason: u64) -> Refusal {
     Refusal {
         number,
         place,
+        recording_place: place,
         room: 0,
         reason,
     }
@@ -96,26 +99,27 @@ fn refused(kind: u8, flags: u8, body: &[u8], at: usize, reason: u64) {
     let end = buffer.len();
     let place = (40 + body_at(flags) + at) as u64;
     let wanted = refusal(15, place, reason);
-    assert_eq!(read_packet(&buffer, 40, end), Err(wanted));
-    assert_eq!(read_packet(&buffer, 40, end - 40), Err(wanted));
+    assert_eq!(read_packet(&buffer, 40, end, 40), Err(wanted));
+    assert_eq!(read_packet(&buffer, 40, end - 40, 40), Err(wanted));
 
     let mut starts = [99; 3];
     let mut lengths = [98; 3];
-    let answer = list_messages(&buffer, 40, end, &mut starts, &mut lengths);
+    let answer = list_messages(&buffer, 40, end, 40, &mut starts, &mut lengths);
     assert_eq!(answer, Err(wanted));
     assert_eq!((starts, lengths), ([99; 3], [98; 3]));
     // 15 comes ahead of 16 and 17.
-    let answer = list_messages(&buffer, 40, end, &mut [], &mut []);
+    let answer = list_messages(&buffer, 40, end, 40, &mut [], &mut []);
     assert_eq!(answer, Err(wanted));
-    assert_eq!(message(&buffer, 40, end, 0), Err(wanted));
-    assert_eq!(message(&buffer, 40, end, usize::MAX), Err(wanted));
+    assert_eq!(message(&buffer, 40, end, 40, 0), Err(wanted));
+    assert_eq!(message(&buffer, 40, end, 40, usize::MAX), Err(wanted));
 
     let recording = Recording {
         refusal: wanted,
         accepted: 1,
         reached: 40,
+        recording_reached: 40,
     };
-    assert_eq!(read_recording(&buffer, 0, end), recording);
+    assert_eq!(read_recording(&buffer, 0, end, 0), recording);
 
     // "For the writer and builder the place is 0."
     let mut out = vec![0xAA; body.len() + 64];
@@ -131,20 +135,21 @@ fn refused(kind: u8, flags: u8, body: &[u8], at: usize, reason: u64) {
 fn accepted(kind: u8, flags: u8, body: &[u8], count: u64) {
     let packet = by_hand(kind, flags, body);
     let end = packet.len();
-    assert!(read_packet(&packet, 0, end).is_ok());
+    assert!(read_packet(&packet, 0, end, 0).is_ok());
     let mut starts = [99; 3];
     let mut lengths = [98; 3];
-    let answer = list_messages(&packet, 0, end, &mut starts, &mut lengths);
+    let answer = list_messages(&packet, 0, end, 0, &mut starts, &mut lengths);
     assert_eq!(answer, Ok(count));
-    assert!(message(&packet, 0, end, count as usize - 1).is_ok());
-    let none = message(&packet, 0, end, count as usize);
+    assert!(message(&packet, 0, end, 0, count as usize - 1).is_ok());
+    let none = message(&packet, 0, end, 0, count as usize);
     assert_eq!(none, Err(refusal(17, 0, 0)));
     let recording = Recording {
         refusal: refusal(0, 0, 0),
         accepted: 1,
         reached: end as u64,
+        recording_reached: end as u64,
     };
-    assert_eq!(read_recording(&packet, 0, end), recording);
+    assert_eq!(read_recording(&packet, 0, end, 0), recording);
     let mut out = vec![0xAA; end];
     let written = write_packet(&fields(kind, flags), body, &mut out);
     assert_eq!(written, Ok(end as u64));
@@ -570,8 +575,8 @@ fn carried_types_have_no_reason() {
         };
         refused(0x30, RELATIVE, bytes, at, reason);
         let carried = by_hand(0x40, RELATIVE, bytes);
-        assert!(read_packet(&carried, 0, carried.len()).is_ok());
-        let recording = read_recording(&carried, 0, carried.len());
+        assert!(read_packet(&carried, 0, carried.len(), 0).is_ok());
+        let recording = read_recording(&carried, 0, carried.len(), 0);
         assert_eq!(recording.refusal, refusal(0, 0, 0));
         let written = write_packet(&fields(0x40, RELATIVE), bytes, &mut [0; 64]);
         assert_eq!(written, Ok(carried.len() as u64));
@@ -583,7 +588,7 @@ fn other_refusals_have_reason_0() {
     // A body at fault, under each test that comes ahead of 15.
     let spoilt = by_hand(0x50, IEEE_1588, &[0, 0, 0, 0, 0]);
     let end = spoilt.len();
-    assert_eq!(read_packet(&spoilt, 0, end), Err(refusal(15, 40, 2)));
+    assert_eq!(read_packet(&spoilt, 0, end, 0), Err(refusal(15, 40, 2)));
     // At, value, and whether the header sum is then put right; the number.
     let spoils = [
         (0, 0x24, false, 3),
@@ -624,11 +629,12 @@ fn other_refusals_have_reason_0() {
 
 /// All four calls that read give this refusal.
 fn all_readers(buf: &[u8], start: usize, end: usize, wanted: Refusal) {
-    assert_eq!(read_packet(buf, start, end), Err(wanted));
-    let listed = list_messages(buf, start, end, &mut [], &mut []);
+    let base = start as u64;
+    assert_eq!(read_packet(buf, start, end, base), Err(wanted));
+    let listed = list_messages(buf, start, end, base, &mut [], &mut []);
     assert_eq!(listed, Err(wanted));
-    assert_eq!(message(buf, start, end, 0), Err(wanted));
-    assert_eq!(read_recording(buf, start, end).refusal, wanted);
+    assert_eq!(message(buf, start, end, base, 0), Err(wanted));
+    assert_eq!(read_recording(buf, start, end, base).refusal, wanted);
 }
 
 #[test]
@@ -658,6 +664,7 @@ fn writer_has_reason_0_save_for_15() {
     let whole = Refusal {
         number: 16,
         place: 0,
+        recording_place: 0,
         room: 48,
         reason: 0,
     };
@@ -672,13 +679,20 @@ fn lister_has_reason_0_for_lack_of_room() {
     let room = Refusal {
         number: 16,
         place: 0,
+        recording_place: 0,
         room: 1,
         reason: 0,
     };
-    assert_eq!(list_messages(&CASE_L, 0, 40, &mut [], &mut [0]), Err(room));
-    assert_eq!(list_messages(&CASE_L, 0, 40, &mut [0], &mut [0]), Ok(1));
-    assert_eq!(message(&CASE_L, 0, 40, 1), Err(refusal(17, 0, 0)));
-    assert_eq!(read_recording(&CASE_L, 40, 40).refusal, refusal(0, 0, 0));
+    assert_eq!(
+        list_messages(&CASE_L, 0, 40, 0, &mut [], &mut [0]),
+        Err(room)
+    );
+    assert_eq!(list_messages(&CASE_L, 0, 40, 0, &mut [0], &mut [0]), Ok(1));
+    assert_eq!(message(&CASE_L, 0, 40, 0, 1), Err(refusal(17, 0, 0)));
+    assert_eq!(
+        read_recording(&CASE_L, 40, 40, 40).refusal,
+        refusal(0, 0, 0)
+    );
 }
 
 #[test]
