@@ -28,12 +28,12 @@
  *     #include "ch11.h"
  *
  *     // Prints the channel of each packet in buf[0] to buf[filled - 1]; gives the refusal that ends it, of number 0 at the exact end.
- *     // buf[0] is byte `base` of the recording; the base moves on with the packets.
- *     static struct ch11_refusal print_channels(const uint8_t *buf, size_t len, size_t filled, uint64_t base)
+ *     // buf[0] is the recording's first byte, so that `at` is also the base.
+ *     static struct ch11_refusal print_channels(const uint8_t *buf, size_t len, size_t filled)
  *     {
  *         struct ch11_packet packet = {0};
  *         for (size_t at = 0; at < filled; at += packet.length) {
- *             if (ch11_read_packet(buf, len, at, filled, base + at, &packet) != CH11_NONE) {
+ *             if (ch11_read_packet(buf, len, at, filled, at, &packet) != CH11_NONE) {
  *                 break;
  *             }
  *             printf("%llu\n", (unsigned long long)packet.fields.channel);

@@ -7,12 +7,13 @@
 
 #include "ch11.h"
 
-/* Prints the channel of each packet in buf[0] to buf[filled - 1]; gives the refusal that ends it, of number 0 at the exact end. */
+/* Prints the channel of each packet in buf[0] to buf[filled - 1]; gives the refusal that ends it, of number 0 at the exact end.
+ * buf[0] is the recording's first byte, so that `at` is also the base. */
 static struct ch11_refusal print_channels(const uint8_t *buf, size_t len, size_t filled)
 {
     struct ch11_packet packet = {0};
     for (size_t at = 0; at < filled; at += packet.length) {
-        if (ch11_read_packet(buf, len, at, filled, &packet) != CH11_NONE) {
+        if (ch11_read_packet(buf, len, at, filled, at, &packet) != CH11_NONE) {
             break;
         }
         printf("%llu\n", (unsigned long long)packet.fields.channel);
@@ -62,7 +63,8 @@ int main(int argc, char **argv)
     struct ch11_refusal refusal = print_channels(buf, len, filled);
     free(buf);
     if (refusal.number != CH11_NONE) {
-        fprintf(stderr, "refused with %llu at byte %llu\n", (unsigned long long)refusal.number, (unsigned long long)refusal.place);
+        fprintf(stderr, "refused with %llu at byte %llu of the recording\n", (unsigned long long)refusal.number,
+                (unsigned long long)refusal.recording_place);
         if (refusal.reason != CH11_REASON_NONE) {
             fprintf(stderr, "reason %llu\n", (unsigned long long)refusal.reason);
         }
