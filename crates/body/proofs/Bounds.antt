@@ -147,10 +147,11 @@ faulty-is kind rule bs r e = go (openBody kind rule bs) refl e
     go Wrong q h = at 0 (omega arith) (fault-for 0 1 r (cc) (omega arith))
 
 -- its number, and its place, alone
-pub faulty-number : (kind : ℕ) (rule : TimeRule) (bs : List ℕ) (r : Refusal) → checkBody kind rule bs ≡ Faulty r → (r .number ≡ 15) × (r .room ≡ 0)
+pub faulty-number : (kind : ℕ) (rule : TimeRule) (bs : List ℕ) (r : Refusal) → checkBody kind rule bs ≡ Faulty r
+    → (r .number ≡ 15) × (r .room ≡ 0) × (r .«recording_place» ≡ 0)
 faulty-number kind rule bs r e =
     let is = faulty-is kind rule bs r e .0 .0 in
-    (ap (λ (x : Refusal). x .number) is, ap (λ (x : Refusal). x .room) is)
+    (ap (λ (x : Refusal). x .number) is, ap (λ (x : Refusal). x .room) is, ap (λ (x : Refusal). x .«recording_place») is)
 
 pub faulty-place : (kind : ℕ) (rule : TimeRule) (bs : List ℕ) (r : Refusal) → checkBody kind rule bs ≡ Faulty r → r .place ≤ length bs
 faulty-place kind rule bs r e = faulty-is kind rule bs r e .1

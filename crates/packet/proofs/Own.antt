@@ -51,6 +51,12 @@ accepted-at buf s e base p h = go (passWindow buf s e base) refl h
         let long : n ≡ p .length = b .long ∙ packet-in-length w s base ∙ sym (ap (λ (x : Packet). x .length) is) in
         record { inside = i; passes = rw long at b; packet = is; reach = window-ends buf s e base i }
 
+-- its tests are passed
+pub accepted-pass : (buf : List ℕ) (s e base : ℕ) (p : Packet) → readPacket buf s e base ≡ Accepted p → passWindow buf s e base ≡ Passed (p .length)
+accepted-pass buf s e base p h =
+    let a = accepted-at buf s e base p h in
+    pass-inside buf s e base (inside-made buf s e base (a .inside)) ∙ passed-bytes (window buf s e) s (p .length) (a .passes)
+
 pub at-accepted : (buf : List ℕ) (s e base : ℕ) (p : Packet) → Inside buf s e base → PassedBytes (window buf s e) (p .length)
     → p ≡ packetIn (window buf s e) s base → readPacket buf s e base ≡ Accepted p
 at-accepted buf s e base p i b is =
@@ -132,10 +138,7 @@ module _ (a b : List ℕ) (s e f base : ℕ) (p : Packet) (h : readPacket a s e 
       (accepted-at a s e base p h .packet ∙ sym (own (λ w. packetIn w s base) (λ v t header there parts. packet-front v t header there parts s base)))
 
   own-pass : passWindow a s e base ≡ passWindow b s f base
-  own-pass =
-      let at = accepted-at a s e base p h in
-      pass-inside a s e base (inside-made a s e base (at .inside)) ∙ passed-bytes (window a s e) s (p .length) (at .passes)
-      ∙ sym (pass-inside b s f base (inside-made b s f base in-b) ∙ passed-bytes (window b s f) s (p .length) own-passes)
+  own-pass = accepted-pass a s e base p h ∙ sym (accepted-pass b s f base p own-read)
 
   own-count : messageCount (window a s e) ≡ messageCount (window b s f)
   unfolding messageCount

@@ -22,9 +22,9 @@ use Rattle.packet.specs.declared.PacketPass.the-variants.{Passed, Barred
 use Rattle.packet.specs.declared.PacketRead.{PacketRead}
 use Rattle.packet.specs.declared.PacketRead.the-variants.{Accepted, Refused}
 
--- a body's refusal is 15, and gives no room
+-- a body's refusal is 15, gives no room, and knows no place in the recording
 abbrev pub Says15 : Checked → Type 0
-Says15 c = (f : Refusal) → c ≡ Faulty f → (f .number ≡ 15) × (f .room ≡ 0)
+Says15 c = (f : Refusal) → c ≡ Faulty f → (f .number ≡ 15) × (f .room ≡ 0) × (f .«recording_place» ≡ 0)
 
 pub given-15 : (c : Contents) → Says15 (contentsChecked c)
 given-15 c = faulty-number (c .fields .kind) (messageRule (c .fields .flags)) (c .body)

@@ -26,7 +26,7 @@ use Rattle.packet_bytes.specs.Bytes.{headWords, headBytes, secondaryWords, seco
 use Rattle.packet.specs.Read.{window, packetIn, bodyChecked, readPacket}
 use Rattle.packet.specs.declared.Packet.{Packet}
 use Rattle.packet.specs.declared.PacketRead.the-variants.{Accepted}
-use Rattle.packet.proofs.Own.{accepted-at, accepted-length}
+use Rattle.packet.proofs.Own.{accepted-at}
 use Rattle.promises.specs.Contents.{Typed, Accepts, contentsOf}
 use Rattle.promises.proofs.Writer.{Writable, writable-accepts}
 
@@ -197,28 +197,28 @@ module _ (w : List ℕ) (b : Bytes w) (f : Framed w) where
 -- ---- in a buffer
 
 -- the contents of a packet at s are those of the window's bytes
-contents-there : (buf : List ℕ) (s e : ℕ) → Sound (window buf s e) → s + length (window buf s e) ≡ e
-    → contentsOf buf (packetIn (window buf s e) s) ≡ contentsIn (window buf s e)
+contents-there : (buf : List ℕ) (s e base : ℕ) → Sound (window buf s e) → s + length (window buf s e) ≡ e
+    → contentsOf buf (packetIn (window buf s e) s base) ≡ contentsIn (window buf s e)
 unfolding packetIn
-contents-there buf s e k r =
+contents-there buf s e base k r =
     let w = window buf s e in
     let p : bodyIn w ≡ part buf (s + bodyAt (flagsIn w)) (dataLength w) =
     part-part buf s (e - s) (bodyAt (flagsIn w)) (dataLength w) (omega (arith, k .parts, k .there)) in
     ap (contents (fieldsIn w)) (sym p)
 
 -- the writer accepts what was read, and writes the bytes that were read
-pub read-again : (buf : List ℕ) (s e : ℕ) (p : Packet) → Bytes buf → readPacket buf s e ≡ Accepted p
+pub read-again : (buf : List ℕ) (s e base : ℕ) (p : Packet) → Bytes buf → readPacket buf s e base ≡ Accepted p
     → Accepts (contentsOf buf p) × (packetBytes (contentsOf buf p) ≡ part buf s (p .length))
-read-again buf s e p b h =
-    let a = accepted-at buf s e p h in
+read-again buf s e base p b h =
+    let a = accepted-at buf s e base p h in
     let w = window buf s e in
-    let k = a .opens .sound in
-    let f = framed-says w (a .opens .framed) in
+    let k = a .passes .sound in
+    let f = framed-says w (a .passes .framed) in
     let bw = bytes-part buf s (e - s) b in
-    let c : contentsOf buf p ≡ contentsIn w = ap (contentsOf buf) (a .packet) ∙ contents-there buf s e k (a .opens .reach) in
-    let n = accepted-length buf s e p a in
+    let c : contentsOf buf p ≡ contentsIn w = ap (contentsOf buf) (a .packet) ∙ contents-there buf s e base k (a .reach) in
+    let n = a .passes .long in
     let t : take (packetLength w) w ≡ part buf s (packetLength w) =
-    take-take (packetLength w) (e - s) (drop s buf) (omega (arith, k .there, a .opens .reach)) in (
-      subst Accepts (sym c) (writable-accepts (contentsIn w) (again-typed w bw f) (again-right w bw f (a .count) (a .body))),
+    take-take (packetLength w) (e - s) (drop s buf) (omega (arith, k .there, a .reach)) in (
+      subst Accepts (sym c) (writable-accepts (contentsIn w) (again-typed w bw f) (again-right w bw f (a .passes .count) (a .passes .body))),
       ap packetBytes c ∙ again-bytes w bw f ∙ t ∙ ap (part buf s) (sym n),
     )

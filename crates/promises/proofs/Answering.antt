@@ -14,15 +14,15 @@ use Rattle.builder.specs.Build.{makes, badDraft, openStep, badBlock, badTime, s
 use Rattle.builder.specs.declared.Draft.{Draft}
 use Rattle.builder.specs.declared.Step.{Step}
 use Rattle.builder.specs.declared.Step.the-variants.{Done, Denied}
-use Rattle.packet.specs.Read.{window, readPacket}
-use Rattle.packet.specs.Messages.{messageCount, kthMessage, listAnswer, listPacket, messageAnswer, messagePacket, listTold, messageTold}
-use Rattle.packet.specs.declared.PacketRead.{PacketRead}
-use Rattle.packet.specs.declared.PacketRead.the-variants.{Accepted, Refused}
+use Rattle.packet.specs.Read.{window, passWindow}
+use Rattle.packet.specs.Messages.{messageCount, kthMessage, listAnswer, recordedList, listPacket, messageAnswer, recordedMessage, messagePacket, listTold, messageTold}
+use Rattle.packet.specs.declared.PacketPass.{PacketPass}
+use Rattle.packet.specs.declared.PacketPass.the-variants.{Passed, Barred}
 use Rattle.packet.specs.declared.PacketList.{PacketList}
 use Rattle.packet.specs.declared.PacketList.the-variants.{Listed, Unlisted}
 use Rattle.packet.specs.declared.PacketMessage.{PacketMessage}
 use Rattle.packet.specs.declared.PacketMessage.the-variants.{Given, Withheld}
-use Rattle.packet.proofs.Told.{read-told, refusal-numbered}
+use Rattle.packet.proofs.Told.{read-told, pass-numbered}
 use Rattle.promises.specs.Answering.{Doing, Answering}
 use Rattle.promises.proofs.WriterKeeping.{written-is}
 
@@ -31,27 +31,27 @@ use Rattle.promises.proofs.WriterKeeping.{written-is}
 abbrev Listing : PacketList → Type 0
 Listing x = listTold x .refusal .number ≡ 0 → x ≡ Listed (listTold x .count)
 
-lists : (buf : List ℕ) (start end len₁ len₂ : ℕ) → Listing (listPacket buf start end len₁ len₂)
+lists : (buf : List ℕ) (start end base len₁ len₂ : ℕ) → Listing (listPacket buf start end base len₁ len₂)
 unfolding listPacket listAnswer
-lists buf start end len₁ len₂ = go (readPacket buf start end) refl
+lists buf start end base len₁ len₂ = go (passWindow buf start end base) refl
   where
     n : ℕ
     n = messageCount (window buf start end)
 
-    fits : (t : Bool) → Listing (pick t (Unlisted (needing n (refused 16 start))) (Listed n))
+    fits : (t : Bool) → Listing (recordedList base start (pick t (Unlisted (needing n (refused 16 start))) (Listed n)))
     fits true e = absurd (omega (arith, e))
     fits false e = refl
 
-    go : (x : PacketRead) → readPacket buf start end ≡ x → Listing (listAnswer x start n (min len₁ len₂))
-    go (Accepted p) q = fits (ltb (min len₁ len₂) n)
-    go (Refused r) q = λ e. absurd (refusal-numbered buf start end r q e)
+    go : (x : PacketPass) → passWindow buf start end base ≡ x → Listing (recordedList base start (listAnswer x start n (min len₁ len₂)))
+    go (Passed p) q = fits (ltb (min len₁ len₂) n)
+    go (Barred r) q = λ e. absurd (pass-numbered buf start end base r q e)
 
 abbrev Giving : PacketMessage → Type 0
 Giving x = messageTold x .refusal .number ≡ 0 → x ≡ Given (messageTold x .message)
 
-gives : (buf : List ℕ) (start end number : ℕ) → Giving (messagePacket buf start end number)
+gives : (buf : List ℕ) (start end base number : ℕ) → Giving (messagePacket buf start end base number)
 unfolding messagePacket messageAnswer
-gives buf start end number = go (readPacket buf start end) refl
+gives buf start end base number = go (passWindow buf start end base) refl
   where
     n : ℕ
     n = messageCount (window buf start end)
@@ -59,13 +59,13 @@ gives buf start end number = go (readPacket buf start end) refl
     m : Message
     m = kthMessage (window buf start end) number
 
-    there : (t : Bool) → Giving (pick t (Withheld (refused 17 start)) (Given m))
+    there : (t : Bool) → Giving (recordedMessage base start (pick t (Withheld (refused 17 start)) (Given m)))
     there true e = absurd (omega (arith, e))
     there false e = refl
 
-    go : (x : PacketRead) → readPacket buf start end ≡ x → Giving (messageAnswer x start n number m)
-    go (Accepted p) q = there (leb n number)
-    go (Refused r) q = λ e. absurd (refusal-numbered buf start end r q e)
+    go : (x : PacketPass) → passWindow buf start end base ≡ x → Giving (recordedMessage base start (messageAnswer x start n number m))
+    go (Passed p) q = there (leb n number)
+    go (Barred r) q = λ e. absurd (pass-numbered buf start end base r q e)
 
 -- ---- the builder
 

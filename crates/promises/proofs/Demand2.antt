@@ -21,9 +21,11 @@ use Rattle.packet.specs.declared.PacketWrite.the-variants.{Written}
 use Rattle.packet.proofs.Own.{accepted-at, accepted-fits, together}
 use Rattle.promises.specs.Contents.{Typed, outputOf, contentsOf}
 use Rattle.promises.specs.Endings.{readTold, writtenTold}
+use Rattle.promises.specs.Handed.{Within}
 use Rattle.promises.specs.Reports.{PacketThere, Reports}
 use Rattle.promises.specs.Demand2.{bytesIn, Demand2}
 use Rattle.promises.proofs.Ends.{accepted-is}
+use Rattle.promises.proofs.HandedOut.{within-inside}
 use Rattle.promises.proofs.Writer.{Writable, written-says, writable-written, writable-accepts, accepts-writable, length-of}
 use Rattle.promises.proofs.Written.{read-written}
 use Rattle.promises.proofs.Again.{read-again}
@@ -57,9 +59,9 @@ five-parts buf start p t =
       t .header,
     )
 
-packet-there-is : (w : List ℕ) (at : ℕ) → PacketThere w at (packetIn w at)
+packet-there-is : (w : List ℕ) (at base : ℕ) → PacketThere w at base (packetIn w at base)
 unfolding packetIn fieldsIn
-packet-there-is w at =
+packet-there-is w at base =
     record {
       channel = refl;
       long = refl;
@@ -73,6 +75,7 @@ packet-there-is w at =
       time = λ e. sym (the-time w _ e refl) ∙ field-add w 24 4 4;
       no-time = λ e. sym (no-time w e);
       «data_sum» = refl;
+      recorded = refl;
       header = refl;
       secondary = refl;
       body = refl;
@@ -95,27 +98,27 @@ writes c out r room =
     (ap writeTold w, ap (λ (x : PacketWrite). take (contentsLength c) (outAfter x out (packetBytes c))) w ∙ output-begins c out)
 
 reads-back : (c : Contents) → Typed c → (out : List ℕ) (n : ℕ) → writeTold (writePacket c (length out)) ≡ writtenTold noRefusal n
-    → (buf : List ℕ) (start end : ℕ) → end ≤ length buf → start + n ≤ end → part buf start n ≡ take n (outputOf c out)
-    → (p : Packet) × (packetTold (readPacket buf start end) ≡ readTold noRefusal p) × (contentsOf buf p ≡ c) × (p .length ≡ n)
-reads-back c typed out n is buf start end within fits same =
+    → (buf : List ℕ) (start end base : ℕ) → Within buf start end base → start + n ≤ end → part buf start n ≡ take n (outputOf c out)
+    → (p : Packet) × (packetTold (readPacket buf start end base) ≡ readTold noRefusal p) × (contentsOf buf p ≡ c) × (p .length ≡ n)
+reads-back c typed out n is buf start end base within fits same =
     let (r, room) = written-says c (length out) (ap (λ (t : WriteTold). t .refusal .number) is) in
     let w = writes c out r room in
     let long : n ≡ length (packetBytes c) = sym (ap (λ (t : WriteTold). t .length) is) ∙ ap (λ (t : WriteTold). t .length) (w .0) ∙ sym (length-of c) in
     let there : part buf start (length (packetBytes c)) ≡ packetBytes c =
     rw long at same ∙ ap (λ (k : ℕ). take k (outputOf c out)) (length-of c) ∙ w .1 in
-    let (p, accepted, contents, length) = read-written c (writable-accepts c typed r) buf start end within (omega arith) there in
+    let (p, accepted, contents, length) = read-written c (writable-accepts c typed r) buf start end base (within-inside buf start end base within) (omega arith) there in
     (p, ap packetTold accepted, contents, length ∙ sym long)
 
-again : (buf : List ℕ) → Bytes buf → (start end : ℕ) (p : Packet) → packetTold (readPacket buf start end) ≡ readTold noRefusal p
+again : (buf : List ℕ) → Bytes buf → (start end base : ℕ) (p : Packet) → packetTold (readPacket buf start end base) ≡ readTold noRefusal p
     → (out : List ℕ) → p .length ≤ length out
     → (writeTold (writePacket (contentsOf buf p) (length out)) ≡ writtenTold noRefusal (p .length))
     × (take (p .length) (outputOf (contentsOf buf p) out) ≡ part buf start (p .length))
-again buf raw start end p is out room =
-    let accepted = accepted-is buf start end p is in
+again buf raw start end base p is out room =
+    let accepted = accepted-is buf start end base p is in
     let c = contentsOf buf p in
-    let (a, same) = read-again buf start end p raw accepted in
+    let (a, same) = read-again buf start end base p raw accepted in
     let inside : start + p .length ≤ length buf =
-    omega (arith, accepted-fits buf start end p accepted .within, accepted-at buf start end p accepted .opens .within) in
+    omega (arith, accepted-fits buf start end base p accepted .within, accepted-at buf start end base p accepted .inside .within) in
     let long : contentsLength c ≡ p .length = sym (length-of c) ∙ ap length same ∙ length-part buf start (p .length) inside in
     let w = writes c out (accepts-writable c a) (omega arith) in
     (rw (← long) (w .0), rw (← long) (w .1) ∙ same)
@@ -125,20 +128,20 @@ demand-2 =
     record {
       accepted-exactly = accepted-exactly;
       packet-there =
-          λ buf start end p is.
-          rw (accepted-at buf start end p (accepted-is buf start end p is) .packet) (packet-there-is (window buf start end) start);
+          λ buf start end base p is.
+          rw (accepted-at buf start end base p (accepted-is buf start end base p is) .packet) (packet-there-is (window buf start end) start base);
       parts-there =
-          λ buf start end p is. let t = together buf start end p (accepted-is buf start end p is) in (t, five-parts buf start p t);
+          λ buf start end base p is. let t = together buf start end base p (accepted-is buf start end base p is) in (t, five-parts buf start p t);
       messages-there =
-          λ buf raw start end p is kind.
+          λ buf raw start end base p is kind.
           let w = window buf start end in
           let o = opens-exactly (kindIn w) .1 kind in
-          let (es, b, reports) = messages-there buf start end p raw (accepted-is buf start end p is) o in
+          let (es, b, reports) = messages-there buf start end base p raw (accepted-is buf start end base p is) o in
           let same = sym (kept-form (kindIn w) (flagsIn w) (bodyIn w) es kind b) in
-          (es, body-kept (kindIn w) (flagsIn w) (bodyIn w) es kind .0 b, subst (λ (form : Form). Reports buf start end es form) same reports);
+          (es, body-kept (kindIn w) (flagsIn w) (bodyIn w) es kind .0 b, subst (λ (form : Form). Reports buf start end base es form) same reports);
       messages-once = blocks-once;
       carried-none =
-          λ buf start end p is other. carried-none buf start end p (accepted-is buf start end p is) (carries (kindIn (window buf start end)) other);
+          λ buf start end base p is other. carried-none buf start end base p (accepted-is buf start end base p is) (carries (kindIn (window buf start end)) other);
       written-reads-back = reads-back;
       written-again = again;
     }

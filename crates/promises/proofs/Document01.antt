@@ -19,11 +19,11 @@ use Rattle.builder.proofs.ReadBack.{built-reads-back, built-closes}
 use Rattle.frame.specs.Rules.{messageRule}
 use Rattle.frame.specs.Contents.{Contents, contentsLength}
 use Rattle.packet_bytes.specs.Bytes.{packetBytes}
-use Rattle.packet.specs.Read.{window, readPacket, packetTold}
-use Rattle.packet.specs.Messages.{messageCount, kthMessage, listAnswer, listPacket, messageAnswer, messagePacket, listTold, messageTold}
+use Rattle.packet.specs.Read.{window, passWindow, readAnswer, readPacket, packetTold}
+use Rattle.packet.specs.Messages.{messageCount, kthMessage, listAnswer, recordedList, listPacket, messageAnswer, recordedMessage, messagePacket, listTold, messageTold}
 use Rattle.packet.specs.Write.{outAfter}
-use Rattle.packet.specs.declared.PacketRead.{PacketRead}
-use Rattle.packet.specs.declared.PacketRead.the-variants.{Accepted, Refused}
+use Rattle.packet.specs.declared.PacketPass.{PacketPass}
+use Rattle.packet.specs.declared.PacketPass.the-variants.{Passed, Barred}
 use Rattle.packet.specs.declared.PacketWrite.{PacketWrite}
 use Rattle.packet.specs.declared.PacketWrite.the-variants.{Written}
 use Rattle.recording.specs.Reading.{reading}
@@ -41,26 +41,33 @@ use Rattle.promises.proofs.Writer.{writable-written, accepts-writable, 
 
 -- ---- the lister and one message, after the reader's tests
 
-list-as-read : (buf : List ℕ) (start end len₁ len₂ : ℕ) → packetTold (readPacket buf start end) .refusal .number ≢ 0
-    → listTold (listPacket buf start end len₁ len₂) ≡ listedTold (packetTold (readPacket buf start end) .refusal) 0
-unfolding listPacket listAnswer
-list-as-read buf start end len₁ len₂ = go (readPacket buf start end)
+list-as-read : (buf : List ℕ) (start end base len₁ len₂ : ℕ) → packetTold (readPacket buf start end base) .refusal .number ≢ 0
+    → listTold (listPacket buf start end base len₁ len₂) ≡ listedTold (packetTold (readPacket buf start end base) .refusal) 0
+unfolding readPacket readAnswer listPacket listAnswer
+list-as-read buf start end base len₁ len₂ = go (passWindow buf start end base)
   where
-    go : (x : PacketRead) → packetTold x .refusal .number ≢ 0
-        → listTold (listAnswer x start (messageCount (window buf start end)) (min len₁ len₂)) ≡ listedTold (packetTold x .refusal) 0
-    go (Accepted p) h = absurd (h refl)
-    go (Refused r) h = refl
+    w : List ℕ
+    w = window buf start end
 
-message-as-read : (buf : List ℕ) (start end number : ℕ) → packetTold (readPacket buf start end) .refusal .number ≢ 0
-    → messageTold (messagePacket buf start end number) ≡ givenTold (packetTold (readPacket buf start end) .refusal) zeroMessage
-unfolding messagePacket messageAnswer
-message-as-read buf start end number = go (readPacket buf start end)
+    go : (x : PacketPass) → packetTold (readAnswer x w start base) .refusal .number ≢ 0
+        → listTold (recordedList base start (listAnswer x start (messageCount w) (min len₁ len₂)))
+        ≡ listedTold (packetTold (readAnswer x w start base) .refusal) 0
+    go (Passed p) h = absurd (h refl)
+    go (Barred r) h = refl
+
+message-as-read : (buf : List ℕ) (start end base number : ℕ) → packetTold (readPacket buf start end base) .refusal .number ≢ 0
+    → messageTold (messagePacket buf start end base number) ≡ givenTold (packetTold (readPacket buf start end base) .refusal) zeroMessage
+unfolding readPacket readAnswer messagePacket messageAnswer
+message-as-read buf start end base number = go (passWindow buf start end base)
   where
-    go : (x : PacketRead) → packetTold x .refusal .number ≢ 0
-        → messageTold (messageAnswer x start (messageCount (window buf start end)) number (kthMessage (window buf start end) number))
-        ≡ givenTold (packetTold x .refusal) zeroMessage
-    go (Accepted p) h = absurd (h refl)
-    go (Refused r) h = refl
+    w : List ℕ
+    w = window buf start end
+
+    go : (x : PacketPass) → packetTold (readAnswer x w start base) .refusal .number ≢ 0
+        → messageTold (recordedMessage base start (messageAnswer x start (messageCount w) number (kthMessage w number)))
+        ≡ givenTold (packetTold (readAnswer x w start base) .refusal) zeroMessage
+    go (Passed p) h = absurd (h refl)
+    go (Barred r) h = refl
 
 -- ---- the builder
 
@@ -105,7 +112,7 @@ document-01 =
       list-as-read = list-as-read;
       message-as-read = message-as-read;
       recording-handed =
-          λ buf start end. (reading buf start end .packets, hands-out buf start end, λ qs h. hands-out-once buf start end _ qs h .1);
+          λ buf start end base. (reading buf start end base .packets, hands-out buf start end base, λ qs h. hands-out-once buf start end base _ qs h .1);
       builder-answers = building;
       built-reads-back = reads-back;
       block-added = λ time upper bytes. refl;

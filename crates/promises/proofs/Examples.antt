@@ -10,7 +10,7 @@ use lib.Dec.{lit<, lit≤}
 use Rattle.units.specs.Units.{Bytes, splice, num, bytesOf, sumUnits, summed, zeros}
 use Rattle.builder.specs.Build.{openStep, grown, draftAdded, addStep, entryOf, closeStep, bufAfter, stepTold}
 use Rattle.builder.specs.Run.{Built, fresh, opened, added, closedBody}
-use Rattle.terms.specs.Refusals.{refused, noRefusal}
+use Rattle.terms.specs.Refusals.{noRefusal}
 use Rattle.terms.specs.Times.{timeOk, ruleOf}
 use Rattle.body.specs.Walk.{messageShape, uartShape, openBody, stampLength, lengthBy, headAt, judge, blockAt, spot, stopAt, ending, walkFrom, walk}
 use Rattle.body.specs.Answers.{checkBody, messageOf, messageIn}
@@ -19,14 +19,14 @@ use Rattle.frame.specs.Header.{fieldsIn}
 use Rattle.frame.specs.Rules.{limit, messageRule}
 use Rattle.frame.specs.Table.{first, headLines, valueLines, wholeLines, secondaryLines, trailerLines, frameLines}
 use Rattle.packet_bytes.specs.Bytes.{headWords, headBytes, secondaryWords, secondaryBytes, bodyAndFillerBytes, dataBytes, packetBytes}
-use Rattle.packet.specs.Read.{inside, outerLines, outerRefusal, packetIn, bodyChecked, bodyAnswer, readPacket}
+use Rattle.packet.specs.Read.{inside, packetIn, bodyChecked, passBody, passBytes, passWindow, readAnswer, readPacket}
 use Rattle.packet.specs.Write.{writerLines, writerRefusal, fitted, writePacket, writeTold}
 use Rattle.recording.specs.Reading.{readFrom, reading, readRecording}
 use Rattle.promises.specs.Contents.{Accepts, AllAccepted, nil, cons, written}
 use Rattle.packet.specs.Messages.{messageCount, kthMessage, messageAnswer, messagePacket, messageTold}
-use Rattle.promises.specs.Endings.{givenTold}
+use Rattle.promises.specs.Endings.{refusedThere, givenTold}
 use Rattle.promises.specs.Altered.{secondary, trailer, Pieces, none, intact, altered}
-use Rattle.promises.specs.Cases.{L, lContents, flags1588, second, carriedByte, three, threeIn, twoAltered, stampedContents, block, stepOpened, bufferOpened, stepAdded, bufferAdded}
+use Rattle.promises.specs.Cases.{L, lContents, terabyte, flags1588, second, carriedByte, three, threeIn, twoAltered, stampedContents, block, stepOpened, bufferOpened, stepAdded, bufferAdded}
 use Rattle.promises.proofs.Alterations.{change-named}
 
 -- ---- L
@@ -48,13 +48,13 @@ l-accepted flags time f t w =
     }
 
 pub L-accepted : Accepts (lContents 2 0)
-unfolding num bytesOf sumUnits summed zeros timeOk ruleOf messageShape uartShape openBody stampLength lengthBy headAt inside judge blockAt spot stopAt ending walkFrom walk checkBody fieldsIn limit messageRule first headLines valueLines wholeLines secondaryLines trailerLines frameLines headWords headBytes secondaryWords secondaryBytes bodyAndFillerBytes dataBytes packetBytes outerLines outerRefusal packetIn bodyChecked bodyAnswer readPacket writerLines writerRefusal fitted writePacket lContents
+unfolding num bytesOf sumUnits summed zeros timeOk ruleOf messageShape uartShape openBody stampLength lengthBy headAt inside judge blockAt spot stopAt ending walkFrom walk checkBody fieldsIn limit messageRule first headLines valueLines wholeLines secondaryLines trailerLines frameLines headWords headBytes secondaryWords secondaryBytes bodyAndFillerBytes dataBytes packetBytes packetIn bodyChecked passBody passBytes passWindow readAnswer readPacket writerLines writerRefusal fitted writePacket lContents
 L-accepted = l-accepted 2 0 (lit< tt) (lit< tt) refl
 
 -- ---- three packets
 
-pub three-read : readRecording threeIn 5 125 ≡ record { accepted = 3; reached = 125; refusal = noRefusal }
-unfolding num bytesOf sumUnits summed zeros timeOk ruleOf messageShape uartShape openBody stampLength lengthBy headAt inside judge blockAt spot stopAt ending walkFrom walk checkBody fieldsIn limit messageRule first headLines valueLines wholeLines secondaryLines trailerLines frameLines headWords headBytes secondaryWords secondaryBytes bodyAndFillerBytes dataBytes packetBytes outerLines outerRefusal packetIn bodyChecked bodyAnswer readPacket writerLines writerRefusal fitted writePacket L lContents written carriedByte three threeIn readFrom reading readRecording
+pub three-read : readRecording threeIn 5 125 terabyte ≡ record { accepted = 3; reached = 125; «recording_reached» = terabyte + 120; refusal = noRefusal }
+unfolding num bytesOf sumUnits summed zeros timeOk ruleOf messageShape uartShape openBody stampLength lengthBy headAt inside judge blockAt spot stopAt ending walkFrom walk checkBody fieldsIn limit messageRule first headLines valueLines wholeLines secondaryLines trailerLines frameLines headWords headBytes secondaryWords secondaryBytes bodyAndFillerBytes dataBytes packetBytes packetIn bodyChecked passBody passBytes passWindow readAnswer readPacket writerLines writerRefusal fitted writePacket L lContents written carriedByte three threeIn readFrom reading readRecording
 three-read = refl
 
 second-accepted : Accepts (lContents flags1588 (second 2))
@@ -95,15 +95,16 @@ two-altered =
     none))
 
 -- and it is read up to the first of them
-pub two-altered-read : readRecording twoAltered 0 120 ≡ record { accepted = 1; reached = 40; refusal = refused 11 40 }
-unfolding num bytesOf sumUnits summed zeros timeOk ruleOf messageShape uartShape openBody stampLength lengthBy headAt inside judge blockAt spot stopAt ending walkFrom walk checkBody fieldsIn limit messageRule first headLines valueLines wholeLines secondaryLines trailerLines frameLines headWords headBytes secondaryWords secondaryBytes bodyAndFillerBytes dataBytes packetBytes outerLines outerRefusal packetIn bodyChecked bodyAnswer readPacket lContents carriedByte twoAltered readFrom reading readRecording
+pub two-altered-read : readRecording twoAltered 0 120 terabyte
+    ≡ record { accepted = 1; reached = 40; «recording_reached» = terabyte + 40; refusal = refusedThere 11 40 (terabyte + 40) }
+unfolding num bytesOf sumUnits summed zeros timeOk ruleOf messageShape uartShape openBody stampLength lengthBy headAt inside judge blockAt spot stopAt ending walkFrom walk checkBody fieldsIn limit messageRule first headLines valueLines wholeLines secondaryLines trailerLines frameLines headWords headBytes secondaryWords secondaryBytes bodyAndFillerBytes dataBytes packetBytes packetIn bodyChecked passBody passBytes passWindow readAnswer readPacket lContents carriedByte twoAltered readFrom reading readRecording
 two-altered-read = refl
 
 -- ---- a message with its time stamp: behind header, secondary header, channel word, stamp and ID word
 
-pub stamped-message : messageTold (messagePacket (packetBytes stampedContents) 0 56 0)
+pub stamped-message : messageTold (messagePacket (packetBytes stampedContents) 0 56 terabyte 0)
     ≡ givenTold noRefusal (record { time = 3 * 2 ^ 16; id = 5 * 2 ^ 16 + 3; start = 52; length = 3 })
-unfolding num bytesOf sumUnits summed zeros timeOk ruleOf messageShape uartShape openBody stampLength lengthBy headAt inside judge blockAt spot stopAt ending walkFrom walk checkBody fieldsIn limit messageRule first headLines valueLines wholeLines secondaryLines trailerLines frameLines headWords headBytes secondaryWords secondaryBytes bodyAndFillerBytes dataBytes packetBytes outerLines outerRefusal packetIn bodyChecked bodyAnswer readPacket messagePacket messageAnswer messageCount kthMessage messageIn messageOf stampedContents
+unfolding num bytesOf sumUnits summed zeros timeOk ruleOf messageShape uartShape openBody stampLength lengthBy headAt inside judge blockAt spot stopAt ending walkFrom walk checkBody fieldsIn limit messageRule first headLines valueLines wholeLines secondaryLines trailerLines frameLines headWords headBytes secondaryWords secondaryBytes bodyAndFillerBytes dataBytes packetBytes packetIn bodyChecked passBody passBytes passWindow readAnswer readPacket messagePacket messageAnswer messageCount kthMessage messageIn messageOf stampedContents
 stamped-message = refl
 
 -- ---- L's body is built

@@ -24,8 +24,8 @@ use Rattle.frame.specs.Table.{line, headLines, valueLines, wholeLines, secondar
 use Rattle.frame.proofs.Tables.{holds}
 use Rattle.frame.proofs.Stages.{no-secondary}
 use Rattle.frame.proofs.Frames.{lengths-say}
-use Rattle.packet.proofs.Answers.{inside-says, inside-made}
-use Rattle.packet.specs.Read.{inside, window, outerLines, bodyChecked, readPacket, packetTold}
+use Rattle.packet.proofs.Passes.{inside-says, inside-made}
+use Rattle.packet.specs.Read.{inside, window, bodyChecked, readPacket, packetTold}
 use Rattle.promises.proofs.NumbersKept.{version-exactly, type-made, type-says, flags-exactly, channel-exactly, lengths-exactly, time-exactly}
 use Rattle.promises.proofs.BodiesKept.{bodyPasses, messages-pass, messages-say}
 use Rattle.promises.specs.Refusals.{OneOf, readerRefusals}
@@ -169,65 +169,65 @@ zeros-exactly w a b fits = (says, made)
 
 -- ---- a rule that is kept passes its test
 
-module _ (buf : List ℕ) (s e : ℕ) (w : List ℕ) where
-  passes₁ : Rule buf s e w 1 → inside buf s e ≡ true
-  passes₁ (within ordered filled) = inside-made buf s e ordered filled
+module _ (buf : List ℕ) (s e base : ℕ) (w : List ℕ) where
+  passes₁ : Rule buf s e base w 1 → inside buf s e base ≡ true
+  passes₁ (within ordered filled fits) = inside-made buf s e base (record { ordered = ordered; within = filled; fits = omega (arith, fits) })
 
-  passes₂ : Rule buf s e w 2 → Rules.enough w ≡ true
+  passes₂ : Rule buf s e base w 2 → Rules.enough w ≡ true
   passes₂ (enough h) = le-leb 24 (length w) h
 
-  passes₃ : Rule buf s e w 3 → Rules.synced w ≡ true
+  passes₃ : Rule buf s e base w 3 → Rules.synced w ≡ true
   passes₃ (synced h) = sync-made w h
 
-  passes₄ : Rule buf s e w 4 → Rules.headerSummed w ≡ true
+  passes₄ : Rule buf s e base w 4 → Rules.headerSummed w ≡ true
   passes₄ (headerSum h) = summed-made 2 11 w (sym h)
 
-  passes₅ : Rule buf s e w 5 → Rules.versionOk (versionIn w) ≡ true
+  passes₅ : Rule buf s e base w 5 → Rules.versionOk (versionIn w) ≡ true
   passes₅ (version h) = version-exactly (versionIn w) .1 h
 
-  passes₆ : Rule buf s e w 6 → Rules.typeOk (kindIn w) ≡ true
+  passes₆ : Rule buf s e base w 6 → Rules.typeOk (kindIn w) ≡ true
   passes₆ (defined h) = type-made (kindIn w) h
 
-  passes₇ : Rule buf s e w 7 → Rules.flagsOk (flagsIn w) ≡ true
+  passes₇ : Rule buf s e base w 7 → Rules.flagsOk (flagsIn w) ≡ true
   passes₇ (flagged h) = flags-exactly (flagsIn w) .1 h
 
-  passes₈ : Rule buf s e w 8 → Rules.channelOk (channelIn w) (kindIn w) ≡ true
+  passes₈ : Rule buf s e base w 8 → Rules.channelOk (channelIn w) (kindIn w) ≡ true
   passes₈ (channel h) = channel-exactly (channelIn w) (kindIn w) .1 h
 
-  passes₉ : Rule buf s e w 9 → Rules.lengthsOk (kindIn w) (flagsIn w) (P w) (D w) ≡ true
+  passes₉ : Rule buf s e base w 9 → Rules.lengthsOk (kindIn w) (flagsIn w) (P w) (D w) ≡ true
   passes₉ (lengths h) = lengths-exactly (kindIn w) (flagsIn w) (P w) (D w) .1 h
 
-  passes₁₀ : Rule buf s e w 10 → Rules.whole w ≡ true
+  passes₁₀ : Rule buf s e base w 10 → Rules.whole w ≡ true
   passes₁₀ (whole h) = le-leb (P w) (length w) h
 
-  passes₁₁ : bodyAt (flagsIn w) ≤ length w → Rule buf s e w 11 → Rules.secondarySummed w ≡ true
+  passes₁₁ : bodyAt (flagsIn w) ≤ length w → Rule buf s e base w 11 → Rules.secondarySummed w ≡ true
   passes₁₁ long (secondarySum h) = secondary-sum-exactly w long .1 h
 
-  passes₁₂ : Rule buf s e w 12 → Rules.secondaryOk w ≡ true
+  passes₁₂ : Rule buf s e base w 12 → Rules.secondaryOk w ≡ true
   passes₁₂ (secondary reserved in-format) = secondary-made w (record { reserved = reserved; in-format = in-format })
 
-  passes₁₃ : bodyAt (flagsIn w) ≤ sumPlace w → sumPlace w ≤ length w → Rule buf s e w 13 → Rules.dataSummed w ≡ true
+  passes₁₃ : bodyAt (flagsIn w) ≤ sumPlace w → sumPlace w ≤ length w → Rule buf s e base w 13 → Rules.dataSummed w ≡ true
   passes₁₃ behind long (dataSum h) = data-sum-exactly w (bodyAt (flagsIn w)) (sumPlace w) (width (flagsIn w)) behind long .1 h
 
-  passes₁₄ : sumPlace w ≤ length w → Rule buf s e w 14 → Rules.fillerOk w ≡ true
+  passes₁₄ : sumPlace w ≤ length w → Rule buf s e base w 14 → Rules.fillerOk w ≡ true
   passes₁₄ long (filler h) = zeros-exactly w (bodyAt (flagsIn w) + D w) (sumPlace w) long .1 h
 
   -- the messages of a body that keeps 15
-  pub kept-messages : Rule buf s e w 15 → MessagesKept (kindIn w) (flagsIn w) (bodyIn w)
+  pub kept-messages : Rule buf s e base w 15 → MessagesKept (kindIn w) (flagsIn w) (bodyIn w)
   kept-messages (messages h) = h
 
-  passes₁₅ : Rule buf s e w 15 → bodyPasses (bodyChecked w) ≡ true
+  passes₁₅ : Rule buf s e base w 15 → bodyPasses (bodyChecked w) ≡ true
   unfolding fieldsIn bodyChecked
   passes₁₅ r = messages-pass (kindIn w) (flagsIn w) (bodyIn w) (kept-messages r)
 
 -- ---- and a test that is passed says its rule, where those before it are kept
 
-module _ (buf : List ℕ) (s e : ℕ) (w : List ℕ) (raw : Bytes w) where
+module _ (buf : List ℕ) (s e base : ℕ) (w : List ℕ) (raw : Bytes w) where
   abbrev Holds : ℕ → Type 0
-  Holds = Rule buf s e w
+  Holds = Rule buf s e base w
 
-  says₁ : inside buf s e ≡ true → Holds 1
-  says₁ t = let i = inside-says buf s e t in within (i .0) (i .1)
+  says₁ : inside buf s e base ≡ true → Holds 1
+  says₁ t = let i = inside-says buf s e base t in within (i .ordered) (i .within) (omega (arith, i .fits))
 
   says₁₂ : Rules.secondaryOk w ≡ true → Holds 12
   says₁₂ t = let r = secondary-says w t in secondary (r .reserved) (r .in-format)
@@ -249,47 +249,47 @@ module _ (buf : List ℕ) (s e : ℕ) (w : List ℕ) (raw : Bytes w) where
       let sum-is = secondary-sum-exactly w long .0 in
       let data-is = data-sum-exactly w (bodyAt f) sum (width f) behind before .0 in
       let zeros-are = zeros-exactly w (bodyAt f + D w) sum before .0 in
-      tests (λ t. secondarySum (sum-is t)) (passes₁₁ buf s e w long) λ _.
-      tests says₁₂ (passes₁₂ buf s e w) λ _.
-      tests (λ t. dataSum (data-is t)) (passes₁₃ buf s e w behind before) λ _.
-      tests (λ t. filler (zeros-are t)) (passes₁₄ buf s e w before) λ _.
-      tests says₁₅ (passes₁₅ buf s e w) λ _.
+      tests (λ t. secondarySum (sum-is t)) (passes₁₁ buf s e base w long) λ _.
+      tests says₁₂ (passes₁₂ buf s e base w) λ _.
+      tests (λ t. dataSum (data-is t)) (passes₁₃ buf s e base w behind before) λ _.
+      tests (λ t. filler (zeros-are t)) (passes₁₄ buf s e base w before) λ _.
+      tests says₁₅ (passes₁₅ buf s e base w) λ _.
       last
 
   -- from 1 on
-  table-tested : Tested Holds (line 1 (inside buf s e) ∷ (frameLines w ++ (line 15 (bodyPasses (bodyChecked w)) ∷ [])))
+  table-tested : Tested Holds (line 1 (inside buf s e base) ∷ (frameLines w ++ (line 15 (bodyPasses (bodyChecked w)) ∷ [])))
   unfolding frameLines headLines valueLines wholeLines secondaryLines trailerLines
   table-tested =
-      tests says₁ (passes₁ buf s e w) λ _.
-      tests (λ t. enough (leb-true 24 (length w) t)) (passes₂ buf s e w) λ t₂.
-      tests (λ t. synced (sync-says w (leb-true 24 (length w) t₂) t)) (passes₃ buf s e w) λ _.
-      tests (λ t. headerSum (sym (summed-says 2 11 w t))) (passes₄ buf s e w) λ _.
-      tests (λ t. version (version-exactly (versionIn w) .0 t)) (passes₅ buf s e w) λ _.
-      tests (λ t. defined (type-says (kindIn w) (byte-below w 15 raw) t)) (passes₆ buf s e w) λ _.
-      tests (λ t. flagged (flags-exactly (flagsIn w) .0 t)) (passes₇ buf s e w) λ _.
-      tests (λ t. channel (channel-exactly (channelIn w) (kindIn w) .0 t)) (passes₈ buf s e w) λ _.
-      tests (λ t. lengths (lengths-exactly (kindIn w) (flagsIn w) (P w) (D w) .0 t)) (passes₉ buf s e w) λ t₉.
-      tests (λ t. whole (leb-true (P w) (length w) t)) (passes₁₀ buf s e w) λ t₁₀.
+      tests says₁ (passes₁ buf s e base w) λ _.
+      tests (λ t. enough (leb-true 24 (length w) t)) (passes₂ buf s e base w) λ t₂.
+      tests (λ t. synced (sync-says w (leb-true 24 (length w) t₂) t)) (passes₃ buf s e base w) λ _.
+      tests (λ t. headerSum (sym (summed-says 2 11 w t))) (passes₄ buf s e base w) λ _.
+      tests (λ t. version (version-exactly (versionIn w) .0 t)) (passes₅ buf s e base w) λ _.
+      tests (λ t. defined (type-says (kindIn w) (byte-below w 15 raw) t)) (passes₆ buf s e base w) λ _.
+      tests (λ t. flagged (flags-exactly (flagsIn w) .0 t)) (passes₇ buf s e base w) λ _.
+      tests (λ t. channel (channel-exactly (channelIn w) (kindIn w) .0 t)) (passes₈ buf s e base w) λ _.
+      tests (λ t. lengths (lengths-exactly (kindIn w) (flagsIn w) (P w) (D w) .0 t)) (passes₉ buf s e base w) λ t₉.
+      tests (λ t. whole (leb-true (P w) (length w) t)) (passes₁₀ buf s e base w) λ t₁₀.
       trailing (lengths-say (kindIn w) (flagsIn w) (P w) (D w) t₉ .parts) (leb-true (P w) (length w) t₁₀)
 
 -- ---- accepted exactly when every rule holds, and refused with n exactly when n is the first that does not
 
-module _ (buf : List ℕ) (raw : Bytes buf) (start end : ℕ) where
+module _ (buf : List ℕ) (raw : Bytes buf) (start end base : ℕ) where
   abbrev Kept : ℕ → Type 0
-  Kept = Rule buf start end (window buf start end)
+  Kept = Rule buf start end base (window buf start end)
 
-  all-tested : Tested Kept (allLines buf start end)
-  unfolding outerLines
-  all-tested = table-tested buf start end (window buf start end) (bytes-part buf start (end - start) raw)
+  all-tested : Tested Kept (allLines buf start end base)
+  unfolding allLines
+  all-tested = table-tested buf start end base (window buf start end) (bytes-part buf start (end - start) raw)
 
-  pub accepted-exactly : (packetTold (readPacket buf start end) .refusal .number ≡ 0) ↔ Keeps buf start end (window buf start end)
+  pub accepted-exactly : (packetTold (readPacket buf start end base) .refusal .number ≡ 0) ↔ Keeps buf start end base (window buf start end)
   accepted-exactly =
-      let are = numbers-are buf start end in
-      rw (number-is buf start end) (rw are at (kept-all Kept all-tested (rw are)), rw are at (all-kept Kept all-tested))
+      let are = numbers-are buf start end base in
+      rw (number-is buf start end base) (rw are at (kept-all Kept all-tested (rw are)), rw are at (all-kept Kept all-tested))
 
   pub refused-exactly : (before : List ℕ) (n : ℕ) (after : List ℕ) → readerRefusals ≡ before ++ (n ∷ after)
-      → (packetTold (readPacket buf start end) .refusal .number ≡ n)
-      ↔ (((m : ℕ) → OneOf m before → Rule buf start end (window buf start end) m) × (¬ Rule buf start end (window buf start end) n))
+      → (packetTold (readPacket buf start end base) .refusal .number ≡ n)
+      ↔ (((m : ℕ) → OneOf m before → Rule buf start end base (window buf start end) m) × (¬ Rule buf start end base (window buf start end) n))
   refused-exactly before n after is =
-      rw (number-is buf start end)
-      (first-exactly Kept all-tested before n after (rw (numbers-are buf start end)) (numbers-are buf start end ∙ is))
+      rw (number-is buf start end base)
+      (first-exactly Kept all-tested before n after (rw (numbers-are buf start end base)) (numbers-are buf start end base ∙ is))

@@ -42,20 +42,20 @@ with-once given after r r′ slice slice′ h h′ =
 
 -- ---- the calls on one packet
 
-pub read-packet-once : (buf : List ℕ) (start end : ℕ) (r r′ : PacketRead) → ReadPacket buf start end r → ReadPacket buf start end r′ → r ≡ r′
-read-packet-once buf start end = only-once (readPacket buf start end)
+pub read-packet-once : (buf : List ℕ) (start end base : ℕ) (r r′ : PacketRead) → ReadPacket buf start end base r → ReadPacket buf start end base r′ → r ≡ r′
+read-packet-once buf start end base = only-once (readPacket buf start end base)
 
-pub list-messages-once : (buf : List ℕ) (start end : ℕ) (starts₀ lengths₀ : List ℕ) (r r′ : PacketList) (starts₁ starts₁′ lengths₁ lengths₁′ : List ℕ)
-    → ListMessages buf start end starts₀ lengths₀ r starts₁ lengths₁ → ListMessages buf start end starts₀ lengths₀ r′ starts₁′ lengths₁′
+pub list-messages-once : (buf : List ℕ) (start end base : ℕ) (starts₀ lengths₀ : List ℕ) (r r′ : PacketList) (starts₁ starts₁′ lengths₁ lengths₁′ : List ℕ)
+    → ListMessages buf start end base starts₀ lengths₀ r starts₁ lengths₁ → ListMessages buf start end base starts₀ lengths₀ r′ starts₁′ lengths₁′
     → (r ≡ r′) × (starts₁ ≡ starts₁′) × (lengths₁ ≡ lengths₁′)
-list-messages-once buf start end starts₀ lengths₀ r r′ starts₁ starts₁′ lengths₁ lengths₁′ h h′ =
-    let given = listPacket buf start end (length starts₀) (length lengths₀) in
+list-messages-once buf start end base starts₀ lengths₀ r r′ starts₁ starts₁′ lengths₁ lengths₁′ h h′ =
+    let given = listPacket buf start end base (length starts₀) (length lengths₀) in
     let s = with-once given (λ x. listAfter x (starts (window buf start end)) starts₀) r r′ starts₁ starts₁′ (h .0, h .1) (h′ .0, h′ .1) in
     let l = with-once given (λ x. listAfter x (lengths (window buf start end)) lengths₀) r r′ lengths₁ lengths₁′ (h .0, h .2) (h′ .0, h′ .2) in
     (s .0, s .1, l .1)
 
-pub message-once : (buf : List ℕ) (start end number : ℕ) (r r′ : PacketMessage) → GiveMessage buf start end number r → GiveMessage buf start end number r′ → r ≡ r′
-message-once buf start end number = only-once (messagePacket buf start end number)
+pub message-once : (buf : List ℕ) (start end base number : ℕ) (r r′ : PacketMessage) → GiveMessage buf start end base number r → GiveMessage buf start end base number r′ → r ≡ r′
+message-once buf start end base number = only-once (messagePacket buf start end base number)
 
 pub write-packet-once : (fields : Fields) (body out₀ : List ℕ) (r r′ : PacketWrite) (out₁ out₁′ : List ℕ)
     → WritePacket fields body out₀ r out₁ → WritePacket fields body out₀ r′ out₁′ → (r ≡ r′) × (out₁ ≡ out₁′)
@@ -63,8 +63,8 @@ write-packet-once fields body out₀ = with-once (writePacket (contents fields b
 
 -- ---- the recording
 
-pub read-recording-once : (buf : List ℕ) (start end : ℕ) (r r′ : Recording) → ReadRecording buf start end r → ReadRecording buf start end r′ → r ≡ r′
-read-recording-once buf start end = only-once (readRecording buf start end)
+pub read-recording-once : (buf : List ℕ) (start end base : ℕ) (r r′ : Recording) → ReadRecording buf start end base r → ReadRecording buf start end base r′ → r ≡ r′
+read-recording-once buf start end base = only-once (readRecording buf start end base)
 
 -- ---- the builder
 

@@ -28,44 +28,47 @@ use Rattle.promises.proofs.BodiesKept.{fault-kept-exactly, fault-kept-o
 use Rattle.promises.proofs.Ends.{read-placed, read-else, list-else, message-else}
 use Rattle.promises.proofs.HandedOut.{hands-out}
 use Rattle.promises.proofs.Keeping.{kept-messages, refused-exactly}
-use Rattle.promises.proofs.WriterKeeping.{write-first, write-placed, write-fault, write-else, write-no-room}
+use Rattle.promises.proofs.WriterKeeping.{write-first, write-placed, write-unrecorded, write-fault, write-else, write-no-room}
 
--- a refusal is its four numbers
-whole : (r : Refusal) (place reason : ℕ) → r .number ≡ 15 → r .place ≡ place → r .room ≡ 0 → r .reason ≡ reason → r ≡ layout place reason
-whole r place reason n p z q = λ i. record { number = n i; place = p i; room = z i; reason = q i }
+-- a refusal is its five numbers
+whole : (r : Refusal) (place recorded reason : ℕ) → r .number ≡ 15 → r .place ≡ place → r .«recording_place» ≡ recorded → r .room ≡ 0 → r .reason ≡ reason
+    → r ≡ layout place recorded reason
+whole r place recorded reason n p far z q = λ i. record { number = n i; place = p i; room = z i; reason = q i; «recording_place» = far i }
 
 -- ---- the reader
 
-module _ (buf : List ℕ) (raw : Bytes buf) (start end : ℕ) (before after : List ℕ) (order : readerRefusals ≡ before ++ (15 ∷ after))
-    (kept : (m : ℕ) → OneOf m before → Rule buf start end (window buf start end) m) (at reason : ℕ) where
+module _ (buf : List ℕ) (raw : Bytes buf) (start end base : ℕ) (before after : List ℕ) (order : readerRefusals ≡ before ++ (15 ∷ after))
+    (kept : (m : ℕ) → OneOf m before → Rule buf start end base (window buf start end) m) (at reason : ℕ) where
   abbrev w : List ℕ
   w = window buf start end
 
   abbrev told : Refusal
-  told = packetTold (readPacket buf start end) .refusal
+  told = packetTold (readPacket buf start end base) .refusal
 
   body-raw : Bytes (bodyBytes w)
   body-raw = bytes-part w (body w) (D w) (bytes-part buf start (end - start) raw)
 
   -- what is told where it is 15
   placed : told .number ≡ 15 → (a : ℕ) × (told .place ≡ start + body w + a) × BodyAtFault (type w) (flags w) (bodyBytes w) a (told .reason)
-  placed n = read-placed buf start end raw (λ z. omega (arith, n, z)) .inner n
+  placed n = read-placed buf start end base raw (λ z. omega (arith, n, z)) .inner n
 
-  read-says : told ≡ layout (start + body w + at) reason → BodyAtFault (type w) (flags w) (bodyBytes w) at reason
+  read-says : told ≡ layout (start + body w + at) (base + body w + at) reason → BodyAtFault (type w) (flags w) (bodyBytes w) at reason
   read-says is =
       let (a, p, there) = placed (ap (λ (r : Refusal). r .number) is) in
       let same : a ≡ at = omega (arith, p, ap (λ (r : Refusal). r .place) is) in
       let q : told .reason ≡ reason = ap (λ (r : Refusal). r .reason) is in
       rw (same, q) at there
 
-  read-made : BodyAtFault (type w) (flags w) (bodyBytes w) at reason → told ≡ layout (start + body w + at) reason
+  read-made : BodyAtFault (type w) (flags w) (bodyBytes w) at reason → told ≡ layout (start + body w + at) (base + body w + at) reason
   read-made there =
       let broken = fault-kept-exactly (type w) (flags w) (bodyBytes w) body-raw .1 (at, reason, there) in
-      let n : told .number ≡ 15 = refused-exactly buf raw start end before 15 after order .1 (kept, λ r. broken (kept-messages buf start end w r)) in
+      let n : told .number ≡ 15 = refused-exactly buf raw start end base before 15 after order .1 (kept, λ r. broken (kept-messages buf start end base w r)) in
       let (a, p, told-there) = placed n in
       let (same, q) = fault-kept-once (type w) (flags w) (bodyBytes w) body-raw a at (told .reason) reason told-there there in
-      whole told (start + body w + at) reason n (p ∙ ap (λ (x : ℕ). start + body w + x) same)
-      (read-placed buf start end raw (λ z. omega (arith, n, z)) .room) q
+      let here = read-placed buf start end base raw (λ z. omega (arith, n, z)) in
+      let (distance, from-start, from-base) = here .recorded in
+      whole told (start + body w + at) (base + body w + at) reason n (p ∙ ap (λ (x : ℕ). start + body w + x) same)
+      (omega (arith, p, same, from-start, from-base)) (here .room) q
 
 -- ---- the writer
 
@@ -77,7 +80,7 @@ module _ (c : Contents) (typed : Typed c) (room : ℕ) (before after : List ℕ)
   abbrev Faulted : ℕ → ℕ → Type 0
   Faulted at why = BodyAtFault (c .fields .kind) (c .fields .flags) (c .body) at why
 
-  write-says : answered ≡ layout 0 reason → (at : ℕ) × Faulted at reason
+  write-says : answered ≡ layout 0 0 reason → (at : ℕ) × Faulted at reason
   write-says is =
       let (at, there) = write-fault c room typed (ap (λ (r : Refusal). r .number) is) in
       let q : answered .reason ≡ reason = ap (λ (r : Refusal). r .reason) is in
@@ -86,21 +89,21 @@ module _ (c : Contents) (typed : Typed c) (room : ℕ) (before after : List ℕ)
   rule-15 : WriterRule c room 15 → MessagesKept (c .fields .kind) (c .fields .flags) (c .body)
   rule-15 (messages h) = h
 
-  write-made : (at : ℕ) × Faulted at reason → answered ≡ layout 0 reason
+  write-made : (at : ℕ) × Faulted at reason → answered ≡ layout 0 0 reason
   write-made (at, there) =
       let broken = fault-kept-exactly (c .fields .kind) (c .fields .flags) (c .body) (typed .body) .1 (at, reason, there) in
       let n : answered .number ≡ 15 = write-first c room typed before 15 after order .1 (kept, λ r. broken (rule-15 r)) in
       let (a, told-there) = write-fault c room typed n in
       let (same, q) = fault-kept-once (c .fields .kind) (c .fields .flags) (c .body) (typed .body) a at (answered .reason) reason told-there there in
-      whole answered 0 reason n (write-placed c room) (write-no-room c room (λ z. omega (arith, n, z))) q
+      whole answered 0 0 reason n (write-placed c room) (write-unrecorded c room) (write-no-room c room (λ z. omega (arith, n, z))) q
 
 -- ---- all others
 
-recording-else : (buf : List ℕ) (start end : ℕ) → ElseNone (readRecording buf start end .refusal)
-recording-else buf start end other =
+recording-else : (buf : List ℕ) (start end base : ℕ) → ElseNone (readRecording buf start end base .refusal)
+recording-else buf start end base other =
     ⊎-elim (λ h. ap (λ (r : Refusal). r .reason) (h .2))
-    (λ h. rw (h .0) at (read-else buf (readRecording buf start end .reached) end (λ n. other (sym (ap (λ (r : Refusal). r .number) (h .0)) ∙ n))))
-    (hands-out buf start end .ends)
+    (λ h. rw (h .0) at (read-else buf (readRecording buf start end base .reached) end (readRecording buf start end base .«recording_reached») (λ n. other (sym (ap (λ (r : Refusal). r .number) (h .0)) ∙ n))))
+    (hands-out buf start end base .ends)
 
 abbrev StepElse : Step → Type 0
 StepElse s = ElseNone (stepTold s .refusal)
@@ -129,9 +132,9 @@ close-else d len = denied (badDraft d len) _ d _ (λ o. refl) (denied (eqb (d .u
 pub reasons : Reasons
 reasons =
     record {
-      read-fault = λ buf raw start end before after order kept at reason. (
-        read-says buf raw start end before after order kept at reason,
-        read-made buf raw start end before after order kept at reason,
+      read-fault = λ buf raw start end base before after order kept at reason. (
+        read-says buf raw start end base before after order kept at reason,
+        read-made buf raw start end base before after order kept at reason,
       );
       write-fault = λ c typed room before after order kept reason. (
         write-says c typed room before after order kept reason,

@@ -3,18 +3,21 @@ use mathlib.Core.Path.{_≡_, refl, sym, subst, _∙_}
 use mathlib.Core.List.{List, [], _∷_, _++_}
 use mathlib.Core.Bool.{Bool, true, false, not, false≢true}
 use mathlib.Core.Logic.{_↔_, inl, inr, ⊎-elim, _≢_}
-use Prim.Native.Nat.{ℕ}
+use Prim.Native.Nat.{ℕ, _+_, _-_}
+use native.Mathlib.Omega.{arith}
 use lib.Dec.{T, eqb}
 use borrow.Author.Tests.{eqb-true, eqb-false}
 use Rattle.units.specs.Choice.{pick}
-use Rattle.terms.specs.Refusals.{refused}
+use Rattle.terms.specs.Refusals.{refused, needing, recorded}
 use Rattle.body.specs.declared.Checked.{Checked}
 use Rattle.body.specs.declared.Checked.the-variants.{Counted, Faulty}
 use Rattle.frame.specs.Table.{Line, line, first, headLines, valueLines, wholeLines, secondaryLines, trailerLines, frameLines}
 use Rattle.frame.proofs.Tables.{numbered, stage-some, stage-none}
 use Rattle.packet.proofs.Told.{Says15, checked-15}
-use Rattle.packet.specs.Read.{window, outerLines, outerRefusal, bodyChecked, bodyAnswer, readPacket, packetTold}
-use Rattle.packet.specs.declared.PacketRead.the-variants.{Refused}
+use Rattle.packet.specs.Read.{inside, window, bodyChecked, passBody, passBytes, passWindow, readAnswer, readPacket, packetTold}
+use Rattle.packet.specs.declared.PacketPass.{PacketPass}
+use Rattle.packet.specs.declared.PacketPass.the-variants.{Passed, Barred}
+use Rattle.promises.specs.Endings.{refusedThere}
 use Rattle.promises.specs.Refusals.{OneOf, readerRefusals}
 use Rattle.promises.proofs.BodiesKept.{bodyPasses}
 use Rattle.promises.proofs.Members.{apart, apart-here, apart-next, one-behind}
@@ -83,40 +86,66 @@ module _ (rule : ℕ → Type 0) where
         λ (before, broken). absurd (false≢true (made (subst rule (sym here) (before b (inl refl))))),
       )
 
--- ---- the reader's table, with 15 as its last line
+-- ---- the reader's table, with 1 as its first line and 15 as its last
 
-abbrev pub allLines : List ℕ → ℕ → ℕ → List Line
-allLines buf s e = outerLines buf s e ++ (line 15 (bodyPasses (bodyChecked (window buf s e))) ∷ [])
+abbrev pub bytesLines : List ℕ → List Line
+bytesLines w = frameLines w ++ (line 15 (bodyPasses (bodyChecked w)) ∷ [])
 
-outer-numbered : (buf : List ℕ) (s e : ℕ) → T (numbered (outerLines buf s e))
-unfolding outerLines frameLines headLines valueLines wholeLines secondaryLines trailerLines
-outer-numbered buf s e = tt
+unfoldable pub allLines : List ℕ → ℕ → ℕ → ℕ → List Line
+allLines buf s e base = line 1 (inside buf s e base) ∷ bytesLines (window buf s e)
 
-body-number : (c : Checked) (w : List ℕ) (at : ℕ) → Says15 c → packetTold (bodyAnswer c w at) .refusal .number ≡ first (line 15 (bodyPasses c) ∷ [])
-unfolding bodyAnswer first
+frame-numbered : (w : List ℕ) → T (numbered (frameLines w))
+unfolding frameLines headLines valueLines wholeLines secondaryLines trailerLines
+frame-numbered w = tt
+
+-- the number that the reader's tests give
+abbrev passNumber : PacketPass → ℕ
+passNumber (Passed n) = 0
+passNumber (Barred r) = r .number
+
+body-number : (c : Checked) (w : List ℕ) (at : ℕ) → Says15 c → passNumber (passBody c w at) ≡ first (line 15 (bodyPasses c) ∷ [])
+unfolding passBody first
 body-number (Counted n) w at right = refl
 body-number (Faulty f) w at right = right f refl .0
 
-pub number-is : (buf : List ℕ) (s e : ℕ) → packetTold (readPacket buf s e) .refusal .number ≡ first (allLines buf s e)
-unfolding readPacket outerRefusal
-number-is buf s e = go (eqb (outerRefusal buf s e) 0) refl
+bytes-number : (w : List ℕ) (at : ℕ) → passNumber (passBytes w at) ≡ first (bytesLines w)
+unfolding passBytes
+bytes-number w at = go (eqb (first (frameLines w)) 0) refl
   where
-    go : (b : Bool) → eqb (outerRefusal buf s e) 0 ≡ b
-        → packetTold (pick (not b) (Refused (refused (outerRefusal buf s e) s)) (bodyAnswer (bodyChecked (window buf s e)) (window buf s e) s)) .refusal .number
-        ≡ first (allLines buf s e)
+    go : (b : Bool) → eqb (first (frameLines w)) 0 ≡ b
+        → passNumber (pick (not b) (Barred (refused (first (frameLines w)) at)) (passBody (bodyChecked w) w at)) ≡ first (bytesLines w)
     go true q =
-        body-number (bodyChecked (window buf s e)) (window buf s e) s (checked-15 (window buf s e))
-        ∙ sym (stage-none (outerLines buf s e) _ (outer-numbered buf s e) (eqb-true (outerRefusal buf s e) 0 q))
-    go false q = stage-some (outerLines buf s e) _ (outerRefusal buf s e) refl (eqb-false (outerRefusal buf s e) 0 q)
+        body-number (bodyChecked w) w at (checked-15 w) ∙ sym (stage-none (frameLines w) _ (frame-numbered w) (eqb-true (first (frameLines w)) 0 q))
+    go false q = stage-some (frameLines w) _ (first (frameLines w)) refl (eqb-false (first (frameLines w)) 0 q)
+
+told-number : (x : PacketPass) (w : List ℕ) (s base : ℕ) → packetTold (readAnswer x w s base) .refusal .number ≡ passNumber x
+unfolding readAnswer
+told-number (Passed n) w s base = refl
+told-number (Barred r) w s base = refl
+
+pub number-is : (buf : List ℕ) (s e base : ℕ) → packetTold (readPacket buf s e base) .refusal .number ≡ first (allLines buf s e base)
+unfolding readPacket passWindow first allLines
+number-is buf s e base = told-number (passWindow buf s e base) (window buf s e) s base ∙ go (inside buf s e base)
+  where
+    go : (t : Bool) → passNumber (pick (not t) (Barred (refused 1 s)) (passBytes (window buf s e) s)) ≡ first (line 1 t ∷ bytesLines (window buf s e))
+    go true = bytes-number (window buf s e) s
+    go false = refl
 
 -- the numbers of its lines are the reader's refusals
-pub numbers-are : (buf : List ℕ) (s e : ℕ) → numbers (allLines buf s e) ≡ readerRefusals
-unfolding outerLines frameLines headLines valueLines wholeLines secondaryLines trailerLines
-numbers-are buf s e = refl
+pub numbers-are : (buf : List ℕ) (s e base : ℕ) → numbers (allLines buf s e base) ≡ readerRefusals
+unfolding allLines frameLines headLines valueLines wholeLines secondaryLines trailerLines
+numbers-are buf s e base = refl
 
 -- and a refusal has one of them
-pub read-numbered : (buf : List ℕ) (s e : ℕ) → packetTold (readPacket buf s e) .refusal .number ≢ 0
-    → OneOf (packetTold (readPacket buf s e) .refusal .number) readerRefusals
-read-numbered buf s e some =
-    let one = first-one (allLines buf s e) in
-    ⊎-elim (λ z. absurd (some z)) (λ o. o) (rw (number-is buf s e) (rw (numbers-are buf s e) at one))
+pub read-numbered : (buf : List ℕ) (s e base : ℕ) → packetTold (readPacket buf s e base) .refusal .number ≢ 0
+    → OneOf (packetTold (readPacket buf s e base) .refusal .number) readerRefusals
+read-numbered buf s e base some =
+    let one = first-one (allLines buf s e base) in
+    ⊎-elim (λ z. absurd (some z)) (λ o. o) (rw (number-is buf s e base) (rw (numbers-are buf s e base) at one))
+
+-- ---- a refusal at the window's start, with its place in the recording: the base
+
+pub start-recorded : (base s number room : ℕ) → recorded base s (needing room (refused number s)) ≡ needing room (refusedThere number s base)
+start-recorded base s number room =
+    let here : base + (s - s) ≡ base = omega arith in
+    λ i. record { number = number; place = s; room = room; reason = 0; «recording_place» = here i }

@@ -8,10 +8,10 @@ use Rattle.frame.specs.Header.{fieldsIn}
 use Rattle.frame.specs.Rules.{limit, messageRule}
 use Rattle.frame.specs.Table.{first, headLines, valueLines, wholeLines, secondaryLines, trailerLines, frameLines}
 use Rattle.packet_bytes.specs.Bytes.{headWords, headBytes, secondaryWords, secondaryBytes, bodyAndFillerBytes, dataBytes, packetBytes}
-use Rattle.packet.specs.Read.{inside, outerLines, outerRefusal, packetIn, bodyChecked, bodyAnswer, readPacket}
+use Rattle.packet.specs.Read.{inside, packetIn, bodyChecked, passBody, passBytes, passWindow, readAnswer, readPacket}
 use Rattle.packet.specs.Write.{writerLines, writerRefusal, fitted, writePacket}
 use Rattle.promises.specs.Cases.{AllRight, L, lContents, cases}
 
 pub cases-right : AllRight cases
-unfolding num bytesOf sumUnits summed zeros timeOk ruleOf messageShape uartShape openBody stampLength lengthBy headAt inside judge blockAt spot stopAt ending walkFrom walk checkBody fieldsIn limit messageRule first headLines valueLines wholeLines secondaryLines trailerLines frameLines headWords headBytes secondaryWords secondaryBytes bodyAndFillerBytes dataBytes packetBytes outerLines outerRefusal packetIn bodyChecked bodyAnswer readPacket writerLines writerRefusal fitted writePacket L lContents cases
+unfolding num bytesOf sumUnits summed zeros timeOk ruleOf messageShape uartShape openBody stampLength lengthBy headAt inside judge blockAt spot stopAt ending walkFrom walk checkBody fieldsIn limit messageRule first headLines valueLines wholeLines secondaryLines trailerLines frameLines headWords headBytes secondaryWords secondaryBytes bodyAndFillerBytes dataBytes packetBytes packetIn bodyChecked passBody passBytes passWindow readAnswer readPacket writerLines writerRefusal fitted writePacket L lContents cases
 cases-right = (refl, (refl, (refl, (refl, (refl, (refl, (refl, (refl, (refl, (refl, (refl, (refl, (refl, (refl, (refl, (refl, tt))))))))))))))))

@@ -199,6 +199,12 @@ module _ (c : Contents) where
   places (short long) = refl
   places (fits long) = refl
 
+  unrecorded : {x : PacketWrite} → Outcome c x → writeTold x .refusal .«recording_place» ≡ 0
+  unrecorded (ruled n o) = refl
+  unrecorded (faulty r q) = given-15 c r q .2
+  unrecorded (short long) = refl
+  unrecorded (fits long) = refl
+
   rooms : {x : PacketWrite} → Outcome c x → writeTold x .refusal .number ≡ 16 → LengthOf c (writeTold x .refusal .room)
   rooms (ruled n o) e = absurd (false≢true (one-among 16 ruledNumbers (rw e at o)))
   rooms (faulty r q) e = absurd (omega (arith, given-15 c r q .0, e))
@@ -245,6 +251,9 @@ module _ (c : Contents) where
 
     pub write-placed : writeTold (writePacket c room) .refusal .place ≡ 0
     write-placed = places (outcome c room)
+
+    pub write-unrecorded : writeTold (writePacket c room) .refusal .«recording_place» ≡ 0
+    write-unrecorded = unrecorded (outcome c room)
 
     pub write-room : writeTold (writePacket c room) .refusal .number ≡ 16 → LengthOf c (writeTold (writePacket c room) .refusal .room)
     write-room = rooms (outcome c room)

@@ -21,7 +21,7 @@ use Rattle.packet_bytes.proofs.Puts.{length-head, length-secondary, length-fill
 use Rattle.packet.specs.Read.{window, packetIn, bodyChecked, readPacket}
 use Rattle.packet.specs.declared.Packet.{Packet}
 use Rattle.packet.specs.declared.PacketRead.the-variants.{Accepted}
-use Rattle.packet.proofs.Answers.{outer-inside, inside-made, outer-open}
+use Rattle.packet.proofs.Passes.{Inside, window-ends}
 use Rattle.packet.proofs.Own.{at-accepted, checked-front}
 use Rattle.promises.specs.Contents.{Typed, Accepts, contentsOf}
 use Rattle.promises.specs.Altered.{flagsOf}
@@ -203,7 +203,7 @@ module _ (c : Contents) (t : Typed c) (r : Writable c) where
 
 -- ---- read again, in a window that begins with it
 
-module _ (c : Contents) (a : Accepts c) (buf : List ℕ) (s e : ℕ) (within : e ≤ length buf) (fits : s + length (packetBytes c) ≤ e)
+module _ (c : Contents) (a : Accepts c) (buf : List ℕ) (s e base : ℕ) (within : Inside buf s e base) (fits : s + length (packetBytes c) ≤ e)
     (same : part buf s (length (packetBytes c)) ≡ packetBytes c) where
   -- what is said of a packet alone is said of the window
   said : {A : Type 0} (what : List ℕ → A) → OfFront what → what (window buf s e) ≡ what (packetBytes c)
@@ -213,20 +213,22 @@ module _ (c : Contents) (a : Accepts c) (buf : List ℕ) (s e : ℕ) (within : e
       own-bytes what front (packetBytes c) (window buf s e) (written-sound c (a .typed) r)
       (rw n (take-take (length (packetBytes c)) (e - s) (drop s buf) (omega arith) ∙ same ∙ sym (take-length (packetBytes c))))
 
-  pub read-written : (p : Packet) × (readPacket buf s e ≡ Accepted p) × (contentsOf buf p ≡ c) × (p .length ≡ length (packetBytes c))
+  pub read-written : (p : Packet) × (readPacket buf s e base ≡ Accepted p) × (contentsOf buf p ≡ c) × (p .length ≡ length (packetBytes c))
   unfolding packetIn
   read-written =
       let r = accepts-writable c a in
       let w = window buf s e in
       let framed : first (frameLines w) ≡ 0 = ap first (said frameLines frame-front) ∙ framed-passes (packetBytes c) (written-framed c (a .typed) r) in
-      let opens = outer-open buf s e (sym (outer-inside buf s e 0 (inside-made buf s e (omega arith) within) (sym framed))) in
+      let sound = frame-sound w framed in
+      let long = said packetLength packet-length-front ∙ written-length c (a .typed) r ∙ sym (length-of c) in
       let fields : fieldsIn w ≡ c .fields = said fieldsIn fields-front ∙ written-fields c (a .typed) r in
-      let place : bodyAt (flagsIn w) + dataLength w ≤ e - s = omega (arith, opens .sound .parts, opens .sound .there, opens .reach) in
+      let place : bodyAt (flagsIn w) + dataLength w ≤ e - s = omega (arith, sound .parts, sound .there, window-ends buf s e base within) in
       let body : part buf (s + bodyAt (flagsIn w)) (dataLength w) ≡ c .body =
       sym (part-part buf s (e - s) (bodyAt (flagsIn w)) (dataLength w) place) ∙ said bodyIn body-front ∙ written-body c (a .typed) r in (
-        packetIn w s,
-        at-accepted buf s e (packetIn w s)
-            (record { opens = opens; count = r .count; body = said bodyChecked checked-front ∙ written-checked c (a .typed) r; packet = refl }),
+        packetIn w s base,
+        at-accepted buf s e base (packetIn w s base) within
+            (record { framed = framed; sound = sound; count = r .count; body = said bodyChecked checked-front ∙ written-checked c (a .typed) r; long = refl })
+            refl,
         (λ i. record { fields = fields i; body = body i }),
-        said packetLength packet-length-front ∙ written-length c (a .typed) r ∙ sym (length-of c),
+        long,
       )

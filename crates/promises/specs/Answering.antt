@@ -21,12 +21,12 @@ abbrev pub Doing : Step → Type 0
 Doing s = stepTold s .refusal .number ≡ 0 → s ≡ Done (stepTold s .draft)
 
 pub record Answering : Type 0 where
-  pub reads : (buf : List ℕ) (start end : ℕ) → packetTold (readPacket buf start end) .refusal .number ≡ 0
-      → readPacket buf start end ≡ Accepted (packetTold (readPacket buf start end) .packet)
-  pub lists : (buf : List ℕ) (start end len₁ len₂ : ℕ) → listTold (listPacket buf start end len₁ len₂) .refusal .number ≡ 0
-      → listPacket buf start end len₁ len₂ ≡ Listed (listTold (listPacket buf start end len₁ len₂) .count)
-  pub gives : (buf : List ℕ) (start end number : ℕ) → messageTold (messagePacket buf start end number) .refusal .number ≡ 0
-      → messagePacket buf start end number ≡ Given (messageTold (messagePacket buf start end number) .message)
+  pub reads : (buf : List ℕ) (start end base : ℕ) → packetTold (readPacket buf start end base) .refusal .number ≡ 0
+      → readPacket buf start end base ≡ Accepted (packetTold (readPacket buf start end base) .packet)
+  pub lists : (buf : List ℕ) (start end base len₁ len₂ : ℕ) → listTold (listPacket buf start end base len₁ len₂) .refusal .number ≡ 0
+      → listPacket buf start end base len₁ len₂ ≡ Listed (listTold (listPacket buf start end base len₁ len₂) .count)
+  pub gives : (buf : List ℕ) (start end base number : ℕ) → messageTold (messagePacket buf start end base number) .refusal .number ≡ 0
+      → messagePacket buf start end base number ≡ Given (messageTold (messagePacket buf start end base number) .message)
   pub writes : (c : Contents) (room : ℕ) → writeTold (writePacket c room) .refusal .number ≡ 0
       → writePacket c room ≡ Written (writeTold (writePacket c room) .length)
   pub opens : (d : Draft) (kind rule len : ℕ) → Doing (openStep d kind rule len)

@@ -24,20 +24,20 @@ use Rattle.recording.specs.declared.Recording.{Recording}
 
 -- ---- the calls on one packet
 
--- read_packet(buf, start, end)
-abbrev pub ReadPacket : List ℕ → ℕ → ℕ → PacketRead → Type 0
-ReadPacket buf start end r = r ≡ readPacket buf start end
+-- read_packet(buf, start, end, base)
+abbrev pub ReadPacket : List ℕ → ℕ → ℕ → ℕ → PacketRead → Type 0
+ReadPacket buf start end base r = r ≡ readPacket buf start end base
 
--- list_messages(buf, start, end, starts, lengths): the two lists at entry, the result, and the two lists at exit
-abbrev pub ListMessages : List ℕ → ℕ → ℕ → List ℕ → List ℕ → PacketList → List ℕ → List ℕ → Type 0
-ListMessages buf start end starts₀ lengths₀ r starts₁ lengths₁ =
-    (r ≡ listPacket buf start end (length starts₀) (length lengths₀))
+-- list_messages(buf, start, end, base, starts, lengths): the two lists at entry, the result, and the two lists at exit
+abbrev pub ListMessages : List ℕ → ℕ → ℕ → ℕ → List ℕ → List ℕ → PacketList → List ℕ → List ℕ → Type 0
+ListMessages buf start end base starts₀ lengths₀ r starts₁ lengths₁ =
+    (r ≡ listPacket buf start end base (length starts₀) (length lengths₀))
     × (starts₁ ≡ listAfter r (starts (window buf start end)) starts₀)
     × (lengths₁ ≡ listAfter r (lengths (window buf start end)) lengths₀)
 
--- message(buf, start, end, number)
-abbrev pub GiveMessage : List ℕ → ℕ → ℕ → ℕ → PacketMessage → Type 0
-GiveMessage buf start end number r = r ≡ messagePacket buf start end number
+-- message(buf, start, end, base, number)
+abbrev pub GiveMessage : List ℕ → ℕ → ℕ → ℕ → ℕ → PacketMessage → Type 0
+GiveMessage buf start end base number r = r ≡ messagePacket buf start end base number
 
 -- write_packet(fields, body, out): the output at entry, the result, and the output at exit
 abbrev pub WritePacket : Fields → List ℕ → List ℕ → PacketWrite → List ℕ → Type 0
@@ -45,9 +45,9 @@ WritePacket fields body out₀ r out₁ = (r ≡ writePacket (contents fields bo
 
 -- ---- the recording
 
--- read_recording(buf, start, end)
-abbrev pub ReadRecording : List ℕ → ℕ → ℕ → Recording → Type 0
-ReadRecording buf start end r = r ≡ readRecording buf start end
+-- read_recording(buf, start, end, base)
+abbrev pub ReadRecording : List ℕ → ℕ → ℕ → ℕ → Recording → Type 0
+ReadRecording buf start end base r = r ≡ readRecording buf start end base
 
 -- ---- the builder
 

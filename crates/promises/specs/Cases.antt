@@ -13,17 +13,17 @@ use Rattle.frame.specs.Contents.{Contents}
 use Rattle.packet_bytes.specs.Bytes.{packetBytes}
 use Rattle.packet.specs.Write.{writePacket, WriteTold, writeTold}
 use Rattle.promises.specs.Contents.{written}
-use Rattle.promises.specs.Endings.{zeroPacket}
+use Rattle.promises.specs.Endings.{zeroPacket, refusedThere}
 
--- a case: a window, and what the reader tells; contents, an output of `room` bytes, and what the writer tells; or bytes and the sum in
+-- a case: a window and its base, and what the reader tells; contents, an output of `room` bytes, and what the writer tells; or bytes and the sum in
 -- their secondary header
 pub data Case : Type 0 where
-  reads : List ℕ → ℕ → ℕ → PacketTold → Case
+  reads : List ℕ → ℕ → ℕ → ℕ → PacketTold → Case
   writes : Contents → ℕ → WriteTold → Case
   secondarySum : List ℕ → ℕ → Case
 
 abbrev pub Right : Case → Type 0
-Right (reads buf start end t) = packetTold (readPacket buf start end) ≡ t
+Right (reads buf start end base t) = packetTold (readPacket buf start end base) ≡ t
 Right (writes c room t) = writeTold (writePacket c room) ≡ t
 Right (secondarySum bytes sum) = field bytes 34 2 ≡ sum
 
@@ -46,6 +46,10 @@ lContents flags time =
       body = 0x00 ∷ 0x00 ∷ 0x00 ∷ 0x00 ∷ 0x03 ∷ 0x00 ∷ 0x00 ∷ 0x00 ∷ 0x41 ∷ 0x42 ∷ 0x43 ∷ 0x00 ∷ [];
     }
 
+-- a base: the window's start is this byte of the recording
+abbrev pub terabyte : ℕ
+terabyte = 2 ^ 40
+
 -- bytes at place 3 of a buffer, with an older L behind them
 abbrev among : List ℕ → List ℕ
 among bytes = 0xEE ∷ 0xEE ∷ 0xEE ∷ (bytes ++ L)
@@ -62,6 +66,7 @@ accepts flags time p «header_sum» secondary filler width «data_sum» =
             «data_length» = 12;
             «header_sum» = «header_sum»;
             «data_sum» = «data_sum»;
+            «recording_place» = terabyte;
             header = partAt 3 24;
             secondary = partAt 27 secondary;
             body = partAt (27 + secondary) 12;
@@ -72,7 +77,7 @@ accepts flags time p «header_sum» secondary filler width «data_sum» =
 
 -- a refusal, at the packet's start
 abbrev refuses : ℕ → PacketTold
-refuses number = record { refusal = refused number 3; packet = zeroPacket }
+refuses number = record { refusal = refusedThere number 3 terabyte; packet = zeroPacket }
 
 -- flags of a secondary header with an IEEE 1588 time and no data sum; a time of 1 second and some nanoseconds
 abbrev pub flags1588 : ℕ
@@ -84,26 +89,26 @@ second nanoseconds = 1 * 2 ^ 32 + nanoseconds
 unfoldable pub cases : List Case
 cases =
     -- L accepted; its first 39 bytes: 10; first 23: 2; empty window: 2
-    reads (among L) 3 43 (accepts 2 0 40 0x3B63 0 2 2 17031)
-    ∷ reads (among L) 3 42 (refuses 10)
-    ∷ reads (among L) 3 26 (refuses 2)
-    ∷ reads (among L) 3 3 (refuses 2)
+    reads (among L) 3 43 terabyte (accepts 2 0 40 0x3B63 0 2 2 17031)
+    ∷ reads (among L) 3 42 terabyte (refuses 10)
+    ∷ reads (among L) 3 26 terabyte (refuses 2)
+    ∷ reads (among L) 3 3 terabyte (refuses 2)
     -- L with byte 0 = 0x24: 3; with byte 13 = 1 and nothing else: 4; with byte 32 = 0x40: 13
-    ∷ reads (among (set L 0 0x24)) 3 43 (refuses 3)
-    ∷ reads (among (set L 13 1)) 3 43 (refuses 4)
-    ∷ reads (among (set L 32 0x40)) 3 43 (refuses 13)
+    ∷ reads (among (set L 0 0x24)) 3 43 terabyte (refuses 3)
+    ∷ reads (among (set L 13 1)) 3 43 terabyte (refuses 4)
+    ∷ reads (among (set L 32 0x40)) 3 43 terabyte (refuses 13)
     -- L's body under an 8-bit sum: filler 3, sum 0xC9, P 40
-    ∷ reads (among (packetBytes (lContents 1 0))) 3 43 (accepts 1 0 40 0x3B62 0 3 1 0xC9)
+    ∷ reads (among (packetBytes (lContents 1 0))) 3 43 terabyte (accepts 1 0 40 0x3B62 0 3 1 0xC9)
     -- under 32 bits: filler 0, sum 0x00434244, P 40
-    ∷ reads (among (packetBytes (lContents 3 0))) 3 43 (accepts 3 0 40 0x3B64 0 0 4 0x00434244)
+    ∷ reads (among (packetBytes (lContents 3 0))) 3 43 terabyte (accepts 3 0 40 0x3B64 0 0 4 0x00434244)
     -- without: P 36
-    ∷ reads (among (packetBytes (lContents 0 0))) 3 39 (accepts 0 0 36 0x3B5D 0 0 0 0)
+    ∷ reads (among (packetBytes (lContents 0 0))) 3 39 terabyte (accepts 0 0 36 0x3B5D 0 0 0 0)
     -- 1588 time of 1 s and 2 ns: secondary sum 3
     ∷ secondarySum (packetBytes (lContents flags1588 (second 2))) 3
-    ∷ reads (among (packetBytes (lContents flags1588 (second 2)))) 3 51 (accepts flags1588 (second 2) 48 0x3BED 12 0 0 0)
+    ∷ reads (among (packetBytes (lContents flags1588 (second 2)))) 3 51 terabyte (accepts flags1588 (second 2) 48 0x3BED 12 0 0 0)
     -- 999,999,999 ns is accepted, 1,000,000,000 is 12; by the writer too
-    ∷ reads (among (packetBytes (lContents flags1588 (second 999999999)))) 3 51 (accepts flags1588 (second 999999999) 48 0x3BED 12 0 0 0)
-    ∷ reads (among (packetBytes (lContents flags1588 (second 1000000000)))) 3 51 (refuses 12)
+    ∷ reads (among (packetBytes (lContents flags1588 (second 999999999)))) 3 51 terabyte (accepts flags1588 (second 999999999) 48 0x3BED 12 0 0 0)
+    ∷ reads (among (packetBytes (lContents flags1588 (second 1000000000)))) 3 51 terabyte (refuses 12)
     ∷ writes (lContents flags1588 (second 999999999)) 48 (record { refusal = noRefusal; length = 48 })
     ∷ writes (lContents flags1588 (second 1000000000)) 48 (record { refusal = refused 12 0; length = 0 })
     ∷ []

@@ -2,22 +2,24 @@
 use mathlib.Core.Path.{_≡_}
 use mathlib.Core.List.{List, _∷_, _++_}
 use mathlib.Core.Logic.{_⊎_, _≢_}
-use Prim.Native.Nat.{ℕ, suc, _+_, _≤_, _<_}
+use Prim.Native.Nat.{ℕ, suc, _+_, _-_, _≤_, _<_}
 use lib.ListN.{length}
 use Rattle.units.specs.Units.{Bytes, splice}
-use Rattle.terms.specs.Refusals.{refused, noRefusal}
+use Rattle.terms.specs.Refusals.{noRefusal}
 use Rattle.packet.specs.Read.{window}
 use Rattle.promises.specs.Contents.{Typed, Accepts, AllAccepted, written}
 use Rattle.frame.specs.Contents.{Contents}
 use Rattle.packet_bytes.specs.Bytes.{packetBytes}
 use Rattle.promises.specs.Altered.{bodyPlace, sumSize, UnitOf, Altered, Pieces, FirstAltered}
+use Rattle.promises.specs.Endings.{refusedThere}
+use Rattle.promises.specs.Handed.{Within}
 use Rattle.promises.specs.ReadsAs.{ReadsAs}
 
 pub record Demand3 : Type 0 where
   -- "Take any list of contents the writer accepts, written end to end, and a window that holds exactly that." Reading it hands out
-  -- exactly the list, to the exact end.
-  pub list-handed-out : (cs : List Contents) → AllAccepted cs → (buf : List ℕ) (start end : ℕ) → start ≤ end → end ≤ length buf
-      → window buf start end ≡ written cs → ReadsAs buf start end cs end noRefusal
+  -- exactly the list, to the exact end; its base is any that is not refused.
+  pub list-handed-out : (cs : List Contents) → AllAccepted cs → (buf : List ℕ) (start end base : ℕ) → Within buf start end base
+      → window buf start end ≡ written cs → ReadsAs buf start end base cs end (base + (end - start)) noRefusal
   -- "Different lists never give equal bytes."
   pub different-lists : (cs ds : List Contents) → AllAccepted cs → AllAccepted ds → cs ≢ ds → written cs ≢ written ds
   -- "Now alter any of its packets, at least one, each in a single unit: one 16-bit word of its primary header or of its secondary
@@ -25,13 +27,15 @@ pub record Demand3 : Type 0 where
   -- packets before the first altered one as they were written, and stops at that one's first byte: with refusal 3 for the sync word,
   -- 4 for another primary word, 11 for a secondary word, 13 for the rest." The units and their numbers: UnitOf.
   pub altered-list : (cs : List Contents) (k : ℕ) (bs : List ℕ) → Pieces cs k bs → 0 < k
-      → (buf : List ℕ) (start end : ℕ) → start ≤ end → end ≤ length buf → window buf start end ≡ bs
+      → (buf : List ℕ) (start end base : ℕ) → Within buf start end base → window buf start end ≡ bs
       → (f : FirstAltered cs bs)
-      × ReadsAs buf start end (f .before) (start + length (written (f .before))) (refused (f .number) (start + length (written (f .before))))
+      × ReadsAs buf start end base (f .before) (start + length (written (f .before))) (base + length (written (f .before)))
+      (refusedThere (f .number) (start + length (written (f .before))) (base + length (written (f .before))))
   -- The same of packets as they were written, one altered, and anything at all behind it.
   pub stops-at-altered : (before : List Contents) → AllAccepted before → (c : Contents) → Accepts c → (n : ℕ) (ys : List ℕ) → Altered c n ys
-      → (rest buf : List ℕ) (start end : ℕ) → start ≤ end → end ≤ length buf → window buf start end ≡ written before ++ (ys ++ rest)
-      → ReadsAs buf start end before (start + length (written before)) (refused n (start + length (written before)))
+      → (rest buf : List ℕ) (start end base : ℕ) → Within buf start end base → window buf start end ≡ written before ++ (ys ++ rest)
+      → ReadsAs buf start end base before (start + length (written before)) (base + length (written before))
+      (refusedThere n (start + length (written before)) (base + length (written before)))
   -- There is one first altered packet.
   pub first-once : (cs : List Contents) (bs : List ℕ) (f g : FirstAltered cs bs)
       → (f .before ≡ g .before) × (f .first ≡ g .first) × (f .behind ≡ g .behind) × (f .number ≡ g .number)

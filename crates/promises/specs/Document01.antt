@@ -31,18 +31,18 @@ use Rattle.promises.specs.Building.{FlagsFor, Building}
 pub record Document01 : Type 0 where
   -- "Tested from the top, save where a call's own order stands below; the first that applies is given, and none is given otherwise."
   -- n is given exactly where the rules before it are kept and its own is not; 0, where all are: Demand2.accepted-exactly
-  pub read-first : (buf : List ℕ) → Bytes buf → (start end : ℕ) (before : List ℕ) (n : ℕ) (after : List ℕ) → readerRefusals ≡ before ++ (n ∷ after)
-      → (packetTold (readPacket buf start end) .refusal .number ≡ n)
-      ↔ (((m : ℕ) → OneOf m before → Rule buf start end (window buf start end) m) × (¬ Rule buf start end (window buf start end) n))
-  -- Lister: "After the reader's tests", and the second call too: a refusal of the reader is theirs, number, place, room and reason
-  pub list-as-read : (buf : List ℕ) (start end len₁ len₂ : ℕ) → packetTold (readPacket buf start end) .refusal .number ≢ 0
-      → listTold (listPacket buf start end len₁ len₂) ≡ listedTold (packetTold (readPacket buf start end) .refusal) 0
-  pub message-as-read : (buf : List ℕ) (start end number : ℕ) → packetTold (readPacket buf start end) .refusal .number ≢ 0
-      → messageTold (messagePacket buf start end number) ≡ givenTold (packetTold (readPacket buf start end) .refusal) zeroMessage
+  pub read-first : (buf : List ℕ) → Bytes buf → (start end base : ℕ) (before : List ℕ) (n : ℕ) (after : List ℕ) → readerRefusals ≡ before ++ (n ∷ after)
+      → (packetTold (readPacket buf start end base) .refusal .number ≡ n)
+      ↔ (((m : ℕ) → OneOf m before → Rule buf start end base (window buf start end) m) × (¬ Rule buf start end base (window buf start end) n))
+  -- Lister: "After the reader's tests", and the second call too: a refusal of the reader is theirs, number, places, room and reason
+  pub list-as-read : (buf : List ℕ) (start end base len₁ len₂ : ℕ) → packetTold (readPacket buf start end base) .refusal .number ≢ 0
+      → listTold (listPacket buf start end base len₁ len₂) ≡ listedTold (packetTold (readPacket buf start end base) .refusal) 0
+  pub message-as-read : (buf : List ℕ) (start end base number : ℕ) → packetTold (readPacket buf start end base) .refusal .number ≢ 0
+      → messageTold (messagePacket buf start end base number) ≡ givenTold (packetTold (readPacket buf start end base) .refusal) zeroMessage
   -- Recording: "Handed out means that the one-packet reader, at each of those places with the same end, gives that packet; the number is
   -- exactly how many. The lengths of the accepted packets add up to the distance covered." One list of packets is so, and no other.
-  pub recording-handed : (buf : List ℕ) (start end : ℕ)
-      → (ps : List Packet) × HandsOut buf start end (readRecording buf start end) ps × ((qs : List Packet) → HandsOut buf start end (readRecording buf start end) qs → qs ≡ ps)
+  pub recording-handed : (buf : List ℕ) (start end base : ℕ)
+      → (ps : List Packet) × HandsOut buf start end base (readRecording buf start end base) ps × ((qs : List Packet) → HandsOut buf start end base (readRecording buf start end base) qs → qs ≡ ps)
   -- Builder: what each step answers, each refusal in its order
   pub builder-answers : Building
   -- "From a fresh state handed on step by step and closed last, the buffer untouched between, the body, at any size, reads back

@@ -42,38 +42,38 @@ time w = field w 24 4 + 2 ^ 32 * field w 28 4
 -- ---- the rules
 
 -- rule n of the table, of a packet at the start of a window; w is given as the window's bytes, window buf start end
-pub data Rule (buf : List ℕ) (start end : ℕ) (w : List ℕ) : ℕ → Type 0 where
-  -- 1: a start and a filled end, with start ≤ end ≤ buffer length
-  within : start ≤ end → end ≤ length buf → Rule buf start end w 1
+pub data Rule (buf : List ℕ) (start end base : ℕ) (w : List ℕ) : ℕ → Type 0 where
+  -- 1: a start and a filled end, with start ≤ end ≤ buffer length; base plus window length does not pass 2^64 - 1
+  within : start ≤ end → end ≤ length buf → base + (end - start) ≤ 2 ^ 64 - 1 → Rule buf start end base w 1
   -- 2: 24 bytes in the window
-  enough : 24 ≤ length w → Rule buf start end w 2
+  enough : 24 ≤ length w → Rule buf start end base w 2
   -- 3: the sync bytes are 25 EB in that order
-  synced : take 2 w ≡ 0x25 ∷ 0xEB ∷ [] → Rule buf start end w 3
+  synced : take 2 w ≡ 0x25 ∷ 0xEB ∷ [] → Rule buf start end base w 3
   -- 4: the header sum is the sum of the eleven 16-bit words ahead of it, modulo 65,536
-  headerSum : field w 22 2 ≡ sumUnits 2 11 w % 65536 → Rule buf start end w 4
+  headerSum : field w 22 2 ≡ sumUnits 2 11 w % 65536 → Rule buf start end base w 4
   -- 5 to 9: version, type, flags, channel, lengths
-  version : VersionKept (byte w 12) → Rule buf start end w 5
-  defined : TypeKept (type w) → Rule buf start end w 6
-  flagged : FlagsKept (flags w) → Rule buf start end w 7
-  channel : ChannelKept (field w 2 2) (type w) → Rule buf start end w 8
-  lengths : LengthsKept (type w) (flags w) (P w) (D w) → Rule buf start end w 9
+  version : VersionKept (byte w 12) → Rule buf start end base w 5
+  defined : TypeKept (type w) → Rule buf start end base w 6
+  flagged : FlagsKept (flags w) → Rule buf start end base w 7
+  channel : ChannelKept (field w 2 2) (type w) → Rule buf start end base w 8
+  lengths : LengthsKept (type w) (flags w) (P w) (D w) → Rule buf start end base w 9
   -- 10: P is within the window
-  whole : P w ≤ length w → Rule buf start end w 10
+  whole : P w ≤ length w → Rule buf start end base w 10
   -- 11: the secondary header's last 2 bytes are the sum of the five 16-bit words before it, modulo 65,536
-  secondarySum : (bit7 (flags w) ≡ 1 → field w 34 2 ≡ sumUnits 2 5 (drop 24 w) % 65536) → Rule buf start end w 11
+  secondarySum : (bit7 (flags w) ≡ 1 → field w 34 2 ≡ sumUnits 2 5 (drop 24 w) % 65536) → Rule buf start end base w 11
   -- 12: its 2 reserved bytes are zero, and its time is in form
-  secondary : (bit7 (flags w) ≡ 1 → field w 32 2 ≡ 0) → (bit7 (flags w) ≡ 1 → InFormat (format (flags w)) (time w)) → Rule buf start end w 12
+  secondary : (bit7 (flags w) ≡ 1 → field w 32 2 ≡ 0) → (bit7 (flags w) ≡ 1 → InFormat (format (flags w)) (time w)) → Rule buf start end base w 12
   -- 13: the last bytes of the packet, if it has a sum, are that of body and filler in units of its own width, counted from the body's first
   -- byte, modulo 2 to that width
   dataSum : (0 < width (flags w)
       → field w (sumPlace w) (width (flags w))
       ≡ sumUnits (width (flags w)) ((sumPlace w - body w) / width (flags w)) (drop (body w) w) % 256 ^ width (flags w))
-      → Rule buf start end w 13
+      → Rule buf start end base w 13
   -- 14: filler bytes, from behind the body to the sum, are zero
-  filler : ((i : ℕ) → body w + D w ≤ i → i < sumPlace w → byte w i ≡ 0) → Rule buf start end w 14
+  filler : ((i : ℕ) → body w + D w ≤ i → i < sumPlace w → byte w i ≡ 0) → Rule buf start end base w 14
   -- 15: the body's layout
-  messages : MessagesKept (type w) (flags w) (bodyBytes w) → Rule buf start end w 15
+  messages : MessagesKept (type w) (flags w) (bodyBytes w) → Rule buf start end base w 15
 
 -- every rule is kept
-abbrev pub Keeps : List ℕ → ℕ → ℕ → List ℕ → Type 0
-Keeps buf start end w = (n : ℕ) → OneOf n readerRefusals → Rule buf start end w n
+abbrev pub Keeps : List ℕ → ℕ → ℕ → ℕ → List ℕ → Type 0
+Keeps buf start end base w = (n : ℕ) → OneOf n readerRefusals → Rule buf start end base w n

@@ -19,4 +19,5 @@ pub mod Demand2
 pub mod Demand3
 pub mod Document01
 pub mod Reasons
+pub mod Places
 pub mod Cases

@@ -21,31 +21,32 @@ use packet::write_packet;
 use recording::Recording;
 use recording::read_recording;
 
-pub fn reads_packet(buf: &[u8], start: usize, end: usize) -> PacketRead
-    ensures { λ r. ⌜ ReadPacket (now (buf .entry)) start end r ⌝ }
+pub fn reads_packet(buf: &[u8], start: usize, end: usize, base: u64) -> PacketRead
+    ensures { λ r. ⌜ ReadPacket (now (buf .entry)) start end base r ⌝ }
     ensures { λ _. ⌜ Bytes (now (buf .entry)) ⌝ }
 {
-    read_packet(buf, start, end)
+    read_packet(buf, start, end, base)
 }
 
 pub fn lists_messages(
     buf: &[u8],
     start: usize,
     end: usize,
+    base: u64,
     starts: &mut [u32],
     lengths: &mut [u32],
 ) -> PacketList
-    ensures { λ r. ⌜ ListMessages (now (buf .entry)) start end (now (starts .entry)) (now (lengths .entry)) r (now (starts .exit)) (now (lengths .exit)) ⌝ }
+    ensures { λ r. ⌜ ListMessages (now (buf .entry)) start end base (now (starts .entry)) (now (lengths .entry)) r (now (starts .exit)) (now (lengths .exit)) ⌝ }
     ensures { λ _. ⌜ Bytes (now (buf .entry)) ⌝ }
 {
-    list_messages(buf, start, end, starts, lengths)
+    list_messages(buf, start, end, base, starts, lengths)
 }
 
-pub fn gives_message(buf: &[u8], start: usize, end: usize, number: usize) -> PacketMessage
-    ensures { λ r. ⌜ GiveMessage (now (buf .entry)) start end number r ⌝ }
+pub fn gives_message(buf: &[u8], start: usize, end: usize, base: u64, number: usize) -> PacketMessage
+    ensures { λ r. ⌜ GiveMessage (now (buf .entry)) start end base number r ⌝ }
     ensures { λ _. ⌜ Bytes (now (buf .entry)) ⌝ }
 {
-    message(buf, start, end, number)
+    message(buf, start, end, base, number)
 }
 
 // Numbers of these types are below 2 to their widths, as Typed asks.
@@ -69,11 +70,11 @@ pub fn writes_packet(fields: Fields, body: &[u8], out: &mut [u8]) -> PacketWrite
     write_packet(fields, body, out)
 }
 
-pub fn reads_recording(buf: &[u8], start: usize, end: usize) -> Recording
-    ensures { λ r. ⌜ ReadRecording (now (buf .entry)) start end r ⌝ }
+pub fn reads_recording(buf: &[u8], start: usize, end: usize, base: u64) -> Recording
+    ensures { λ r. ⌜ ReadRecording (now (buf .entry)) start end base r ⌝ }
     ensures { λ _. ⌜ Bytes (now (buf .entry)) ⌝ }
 {
-    read_recording(buf, start, end)
+    read_recording(buf, start, end, base)
 }
 
 pub fn starts_fresh() -> Draft
