@@ -26,3 +26,4 @@ pub mod Demand2
 pub mod Demand3
 pub mod Document01
 pub mod Reasons
+pub mod Places
