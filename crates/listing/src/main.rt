@@ -36,7 +36,7 @@ fn show_fields(fields: Fields) -> bool {
 // The lines of a packet.
 fn show_packet(number: usize, packet: Packet, messages: usize) -> bool {
     line(b"packet=", number as u64)
-        && line(b"at=", packet.header.at as u64)
+        && line(b"at=", packet.recording_place)
         && line(b"length=", packet.length as u64)
         && show_fields(packet.fields)
         && line(b"body=", packet.body.length as u64)
@@ -55,11 +55,11 @@ fn show_end(recording: Recording) -> bool {
 // How many messages the packet at `at` has, 0 if its type isn't opened. Lent no entries, the lister says 0 or asks for the room of
 // all messages: their number.
 fn message_count(buf: &[u8], at: usize, end: usize) -> usize
-    ensures { λ r. ⌜ ((p : Packet) → readPacket (now (buf .entry)) at end ≡ Accepted p → r ≡ messageCount (window (now (buf .entry)) at end)) ⌝ }
+    ensures { λ r. ⌜ ((p : Packet) → readPacket (now (buf .entry)) at end at ≡ Accepted p → r ≡ messageCount (window (now (buf .entry)) at end)) ⌝ }
 {
     let mut starts = [0u32; 1];
     let mut lengths = [0u32; 1];
-    match list_messages(buf, at, end, &mut starts[..0], &mut lengths[..0]) {
+    match list_messages(buf, at, end, at as u64, &mut starts[..0], &mut lengths[..0]) {
         PacketList::Listed(count) => count,
         PacketList::Unlisted(refusal) => refusal.room,
     }
@@ -70,7 +70,7 @@ fn show_packets(buf: &[u8], end: usize, count: usize) -> bool {
     let mut at: usize = 0;
     let mut number: usize = 0;
     while number < count {
-        let PacketRead::Accepted(packet) = read_packet(buf, at, end) else {
+        let PacketRead::Accepted(packet) = read_packet(buf, at, end, at as u64) else {
             return false;
         };
         if !show_packet(number, packet, message_count(buf, at, end)) {
@@ -82,10 +82,10 @@ fn show_packets(buf: &[u8], end: usize, count: usize) -> bool {
     true
 }
 
-// Lists a recording.
+// Lists a recording. The buffer begins with its first byte: a place in the one is a place in the other, and so a packet's base.
 fn list(buf: &[u8]) -> bool {
     let end = buf.len();
-    let recording = read_recording(buf, 0, end);
+    let recording = read_recording(buf, 0, end, 0);
     show_packets(buf, end, recording.accepted) && show_end(recording)
 }
 

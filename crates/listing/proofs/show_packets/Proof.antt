@@ -16,7 +16,7 @@ add-at : tie.Need-add-at Inv-loop μ-loop
 add-at c =
     let after-read = c .before .before .before .before .before .before .before in
     let g = c .before .before .before .before .before .packet .given in
-    let k = accepted-fits _ _ _ (g .0 .0) (sym (after-read .read-packet .ensures) ∙ g .1) in
+    let k = accepted-fits _ _ _ _ (g .0 .0) (sym (after-read .read-packet .ensures) ∙ g .1) in
     omega (arith, k, after-read .before .before .before .before .fits)
 
 add-number : tie.Need-add-number Inv-loop μ-loop
