@@ -42,7 +42,13 @@ pub fn lists_messages(
     list_messages(buf, start, end, base, starts, lengths)
 }
 
-pub fn gives_message(buf: &[u8], start: usize, end: usize, base: u64, number: usize) -> PacketMessage
+pub fn gives_message(
+    buf: &[u8],
+    start: usize,
+    end: usize,
+    base: u64,
+    number: usize,
+) -> PacketMessage
     ensures { λ r. ⌜ GiveMessage (now (buf .entry)) start end base number r ⌝ }
     ensures { λ _. ⌜ Bytes (now (buf .entry)) ⌝ }
 {
