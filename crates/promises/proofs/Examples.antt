@@ -1,9 +1,9 @@
 -- The demands are not empty: L is among the contents that the writer accepts; a recording of three different packets is read to its
--- exact end, and with two of them altered up to the first; a body is built. All computed by the checker.
+-- exact end, and with two of them altered up to the first; both sides of a base's line; a body is built. All computed by the checker.
 use mathlib.Core.Path.{_≡_, refl, ap}
 use mathlib.Core.List.{List, [], _∷_}
 use mathlib.Core.Logic.{_≢_}
-use Prim.Native.Nat.{ℕ, _+_, _*_, _^_, _<_}
+use Prim.Native.Nat.{ℕ, _+_, _-_, _*_, _^_, _<_}
 use native.Mathlib.Omega.{arith}
 use lib.ListN.{getD, replicate}
 use lib.Dec.{lit<, lit≤}
@@ -99,6 +99,17 @@ pub two-altered-read : readRecording twoAltered 0 120 terabyte
     ≡ record { accepted = 1; reached = 40; «recording_reached» = terabyte + 40; refusal = refusedThere 11 40 (terabyte + 40) }
 unfolding num bytesOf sumUnits summed zeros timeOk ruleOf messageShape uartShape openBody stampLength lengthBy headAt inside judge blockAt spot stopAt ending walkFrom walk checkBody fieldsIn limit messageRule first headLines valueLines wholeLines secondaryLines trailerLines frameLines headWords headBytes secondaryWords secondaryBytes bodyAndFillerBytes dataBytes packetBytes packetIn bodyChecked passBody passBytes passWindow readAnswer readPacket lContents carriedByte twoAltered readFrom reading readRecording
 two-altered-read = refl
+
+-- ---- the largest base for a window of 40 bytes, base plus length 2^64 - 1, and the next
+
+pub last-base : readRecording L 0 40 (2 ^ 64 - 41) ≡ record { accepted = 1; reached = 40; «recording_reached» = 2 ^ 64 - 1; refusal = noRefusal }
+unfolding num bytesOf sumUnits summed zeros timeOk ruleOf messageShape uartShape openBody stampLength lengthBy headAt inside judge blockAt spot stopAt ending walkFrom walk checkBody fieldsIn limit messageRule first headLines valueLines wholeLines secondaryLines trailerLines frameLines packetIn bodyChecked passBody passBytes passWindow readAnswer readPacket L readFrom reading readRecording
+last-base = refl
+
+pub past-base : readRecording L 0 40 (2 ^ 64 - 40)
+    ≡ record { accepted = 0; reached = 0; «recording_reached» = 2 ^ 64 - 40; refusal = refusedThere 1 0 (2 ^ 64 - 40) }
+unfolding num bytesOf sumUnits summed zeros timeOk ruleOf messageShape uartShape openBody stampLength lengthBy headAt inside judge blockAt spot stopAt ending walkFrom walk checkBody fieldsIn limit messageRule first headLines valueLines wholeLines secondaryLines trailerLines frameLines packetIn bodyChecked passBody passBytes passWindow readAnswer readPacket L readFrom reading readRecording
+past-base = refl
 
 -- ---- a message with its time stamp: behind header, secondary header, channel word, stamp and ID word
 
