@@ -7,10 +7,9 @@ use native.Mathlib.Omega.{arith}
 use native.Mathlib.Decide.{decLe}
 use lib.ListN.{length}
 use lib.Dec.{leb, ltb}
-use borrow.Author.Tests.{le-leb, lt-leb, lt-ltb, le-ltb, leb-true, ltb-true, ne-eqb}
+use borrow.Author.Tests.{le-leb, lt-leb, lt-ltb, le-ltb, ltb-true}
 use Rattle.units.specs.Units.{part, field}
 use Rattle.units.specs.Choice.{pick}
-use Rattle.units.proofs.Choices.{and-true}
 use Rattle.units.proofs.Parts.{length-part}
 use Rattle.body.specs.Walk.{opens, openBody}
 use Rattle.terms.specs.Refusals.{refused, needing, moved}

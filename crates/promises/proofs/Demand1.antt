@@ -1,7 +1,6 @@
 -- Demand 1 holds.
 use mathlib.Core.Path.{_≡_, refl, sym, ap, _∙_}
 use mathlib.Core.List.{List}
-use mathlib.Core.Bool.{Bool, true, false}
 use mathlib.Core.Logic.{inl, inr, ⊎-elim, _≢_}
 use Prim.Native.Nat.{ℕ, _+_, _≤_}
 use native.Mathlib.Omega.{arith}
@@ -11,7 +10,7 @@ use Rattle.terms.specs.declared.Refusal.{Refusal}
 use Rattle.builder.specs.Build.{bufAfter, stepTold}
 use Rattle.builder.specs.declared.Step.{Step}
 use Rattle.builder.specs.declared.Step.the-variants.{Done, Denied}
-use Rattle.packet.specs.Read.{inside, window, readPacket, packetTold}
+use Rattle.packet.specs.Read.{window, readPacket, packetTold}
 use Rattle.terms.specs.Refusals.{noRefusal}
 use Rattle.packet.specs.Messages.{listPacket, listAfter, starts, lengths, listTold, messageTold}
 use Rattle.packet.specs.Write.{outAfter, writeTold}
@@ -23,7 +22,6 @@ use Rattle.packet.specs.declared.PacketWrite.the-variants.{Written, Unwritten}
 use Rattle.packet.proofs.Window.{entries-kept, count-fits, length-after, read-window, list-window, message-window, entries-window}
 use Rattle.packet.proofs.Own.{own-read, own-list, own-message, own-entries}
 use Rattle.recording.specs.Reading.{Reading, reading, readRecording}
-use Rattle.recording.specs.declared.Recording.{Recording}
 use Rattle.promises.specs.Handed.{Within, HandsOut}
 use Rattle.packet.proofs.Passes.{inside-made}
 use Rattle.recording.proofs.Readings.{from-end, reading-inside, reading-outside}

@@ -1,20 +1,19 @@
 -- Document 02 §9: places in the recording are a base plus the distance from the window's start, and nothing else rests on the base.
 use mathlib.Core.Path.{_≡_, refl, sym, ap, _∙_}
-use mathlib.Core.List.{List, [], _∷_}
+use mathlib.Core.List.{List, _∷_}
 use mathlib.Core.Bool.{Bool, true, false, false≢true}
-use mathlib.Core.Logic.{inl, inr, ⊎-elim, _≢_}
-use Prim.Native.Nat.{ℕ, zero, suc, _+_, _-_, _≤_, _<_, min}
+use mathlib.Core.Logic.{⊎-elim, _≢_}
+use Prim.Native.Nat.{ℕ, zero, suc, _+_, _-_, _≤_, min}
 use native.Mathlib.Omega.{arith}
-use lib.ListN.{length, take, getD}
+use lib.ListN.{length}
 use lib.Dec.{leb, ltb}
-use borrow.Author.Tests.{leb-false}
 use Rattle.units.specs.Choice.{pick}
 use Rattle.terms.specs.Refusals.{refused, noRefusal, needing, recorded}
 use Rattle.terms.specs.declared.Refusal.{Refusal}
 use Rattle.body.specs.declared.Message.{Message}
 use Rattle.frame.specs.Header.{packetLength}
 use Rattle.frame.specs.Table.{first, headLines, valueLines, wholeLines, secondaryLines, trailerLines, frameLines}
-use Rattle.packet.specs.Read.{inside, window, packetIn, passBytes, passWindow, readAnswer, readPacket, noPacket, PacketTold, packetTold}
+use Rattle.packet.specs.Read.{window, packetIn, passBytes, passWindow, readAnswer, readPacket, packetTold}
 use Rattle.packet.specs.Messages.{messageCount, kthMessage, listAnswer, recordedList, listPacket, listAfter, starts, lengths, messageAnswer, recordedMessage, messagePacket, listTold, entries, messageTold}
 use Rattle.packet.specs.declared.Packet.{Packet}
 use Rattle.packet.specs.declared.PacketPass.{PacketPass}
@@ -28,13 +27,12 @@ use Rattle.packet.proofs.Told.{pass-numbered}
 use Rattle.packet.proofs.Window.{entries-told}
 use Rattle.packet.proofs.Own.{accepted-at}
 use Rattle.recording.specs.Reading.{Reading, stopped, onward, readFrom, reading, readRecording}
-use Rattle.recording.specs.declared.Recording.{Recording}
-use Rattle.recording.proofs.Readings.{from, reading-inside}
+use Rattle.recording.proofs.Readings.{reading-inside}
 use Rattle.promises.specs.Endings.{zeroPacket, zeroMessage, AsFar, refusedThere, readTold, listedTold, givenTold}
 use Rattle.promises.specs.Handed.{lengthOf, Within, HandsOut}
 use Rattle.promises.specs.Places.{Recorded, Apart, RefusalApart, PacketApart, ToldApart, PacketsApart, none, next, AnswersApart, Places}
 use Rattle.promises.proofs.Ends.{accepted-is, window-recorded}
-use Rattle.promises.proofs.HandedOut.{inside-within, within-inside, not-inside, read-outside, hands-out, hands-out-once, same-behind}
+use Rattle.promises.proofs.HandedOut.{within-inside, not-inside, read-outside, hands-out, hands-out-once, same-behind}
 use Rattle.promises.proofs.Members.{one-among}
 use Rattle.promises.proofs.Refusing.{numbers, first-one, bytesLines, allLines, number-is, start-recorded}
 use Rattle.promises.proofs.WriterKeeping.{write-unrecorded}

@@ -9,7 +9,7 @@ use Rattle.terms.specs.declared.Refusal.{Refusal}
 use Rattle.terms.specs.Refusals.{noRefusal}
 use Rattle.frame.specs.Contents.{Contents}
 use Rattle.packet.specs.Read.{window, readPacket, noPacket, PacketTold, packetTold}
-use Rattle.packet.specs.Messages.{listPacket, starts, lengths, messagePacket, ListTold, listTold, entries, MessageTold, messageTold}
+use Rattle.packet.specs.Messages.{listPacket, starts, lengths, messagePacket, listTold, entries, messageTold}
 use Rattle.packet.specs.Write.{writePacket, writeTold}
 use Rattle.packet.specs.declared.Packet.{Packet}
 use Rattle.recording.specs.Reading.{readRecording}
