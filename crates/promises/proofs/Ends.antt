@@ -129,14 +129,6 @@ module _ (buf : List ℕ) (s e base : ℕ) where
       go (Accepted p) q = inl (p, refl)
       go (Refused r) q = inr (r, refl, refused-numbered r q)
 
-  pub read-else : ElseNone (packetTold (readPacket buf s e base) .refusal)
-  unfolding readPacket readAnswer
-  read-else = go (passWindow buf s e base) refl
-    where
-      go : (x : PacketPass) → passWindow buf s e base ≡ x → ElseNone (packetTold (readAnswer x (window buf s e) s base) .refusal)
-      go (Passed n) q other = refl
-      go (Barred r) q other = window-else r q other
-
   pub read-placed : Bytes buf → packetTold (readPacket buf s e base) .refusal .number ≢ 0
       → Placed (window buf s e) s base (packetTold (readPacket buf s e base) .refusal)
   unfolding readPacket readAnswer
@@ -178,27 +170,50 @@ module _ (buf : List ℕ) (s e base : ℕ) where
       go (Passed p) count m q = there (leb count k) m
       go (Barred r) count m q = inr (recorded base s r, refl, one-ahead (r .number) readerRefusals (17 ∷ []) (barred-numbered buf s e base r q))
 
-  pub list-else : (m n : ℕ) → ElseNone (listTold (listPacket buf s e base m n) .refusal)
+-- ---- what holds of every refusal: of none, of one that the reader's tests give, and of the calls' own
+
+module _ (buf : List ℕ) (s e base : ℕ) (Holds : Refusal → Type 0) (none : Holds noRefusal)
+    (barred : (r : Refusal) → passWindow buf s e base ≡ Barred r → Holds (recorded base s r)) where
+  pub read-all : Holds (packetTold (readPacket buf s e base) .refusal)
+  unfolding readPacket readAnswer
+  read-all = go (passWindow buf s e base) refl
+    where
+      go : (x : PacketPass) → passWindow buf s e base ≡ x → Holds (packetTold (readAnswer x (window buf s e) s base) .refusal)
+      go (Passed n) q = none
+      go (Barred r) q = barred r q
+
+  pub list-all : ((count : ℕ) → Holds (recorded base s (needing count (refused 16 s)))) → (m n : ℕ) → Holds (listTold (listPacket buf s e base m n) .refusal)
   unfolding listPacket listAnswer
-  list-else m n = go (passWindow buf s e base) (messageCount (window buf s e)) refl
+  list-all full m n = go (passWindow buf s e base) (messageCount (window buf s e)) refl
     where
-      fits : (t : Bool) (count : ℕ) → ElseNone (listTold (recordedList base s (pick t (Unlisted (needing count (refused 16 s))) (Listed count))) .refusal)
-      fits true count other = refl
-      fits false count other = refl
+      fits : (t : Bool) (count : ℕ) → Holds (listTold (recordedList base s (pick t (Unlisted (needing count (refused 16 s))) (Listed count))) .refusal)
+      fits true count = full count
+      fits false count = none
 
-      go : (x : PacketPass) (count : ℕ) → passWindow buf s e base ≡ x → ElseNone (listTold (recordedList base s (listAnswer x s count (min m n))) .refusal)
+      go : (x : PacketPass) (count : ℕ) → passWindow buf s e base ≡ x → Holds (listTold (recordedList base s (listAnswer x s count (min m n))) .refusal)
       go (Passed p) count q = fits (ltb (min m n) count) count
-      go (Barred r) count q = window-else buf s e base r q
+      go (Barred r) count q = barred r q
 
-  pub message-else : (k : ℕ) → ElseNone (messageTold (messagePacket buf s e base k) .refusal)
+  pub message-all : Holds (recorded base s (refused 17 s)) → (k : ℕ) → Holds (messageTold (messagePacket buf s e base k) .refusal)
   unfolding messagePacket messageAnswer
-  message-else k = go (passWindow buf s e base) (messageCount (window buf s e)) (kthMessage (window buf s e) k) refl
+  message-all absent k = go (passWindow buf s e base) (messageCount (window buf s e)) (kthMessage (window buf s e) k) refl
     where
-      there : (t : Bool) (m : Message) → ElseNone (messageTold (recordedMessage base s (pick t (Withheld (refused 17 s)) (Given m))) .refusal)
-      there true m other = refl
-      there false m other = refl
+      there : (t : Bool) (m : Message) → Holds (messageTold (recordedMessage base s (pick t (Withheld (refused 17 s)) (Given m))) .refusal)
+      there true m = absent
+      there false m = none
 
       go : (x : PacketPass) (count : ℕ) (m : Message) → passWindow buf s e base ≡ x
-          → ElseNone (messageTold (recordedMessage base s (messageAnswer x s count k m)) .refusal)
+          → Holds (messageTold (recordedMessage base s (messageAnswer x s count k m)) .refusal)
       go (Passed p) count m q = there (leb count k) m
-      go (Barred r) count m q = window-else buf s e base r q
+      go (Barred r) count m q = barred r q
+
+-- what is not 15 has no reason
+module _ (buf : List ℕ) (s e base : ℕ) where
+  pub read-else : ElseNone (packetTold (readPacket buf s e base) .refusal)
+  read-else = read-all buf s e base ElseNone (λ o. refl) (window-else buf s e base)
+
+  pub list-else : (m n : ℕ) → ElseNone (listTold (listPacket buf s e base m n) .refusal)
+  list-else = list-all buf s e base ElseNone (λ o. refl) (window-else buf s e base) (λ count o. refl)
+
+  pub message-else : (k : ℕ) → ElseNone (messageTold (messagePacket buf s e base k) .refusal)
+  message-else = message-all buf s e base ElseNone (λ o. refl) (window-else buf s e base) (λ o. refl)

@@ -31,7 +31,7 @@ use Rattle.recording.proofs.Readings.{reading-inside}
 use Rattle.promises.specs.Endings.{zeroPacket, zeroMessage, AsFar, refusedThere, readTold, listedTold, givenTold}
 use Rattle.promises.specs.Handed.{lengthOf, Within, HandsOut}
 use Rattle.promises.specs.Places.{Recorded, Apart, RefusalApart, PacketApart, ToldApart, PacketsApart, none, next, AnswersApart, Places}
-use Rattle.promises.proofs.Ends.{accepted-is, window-recorded}
+use Rattle.promises.proofs.Ends.{accepted-is, window-recorded, read-all, list-all, message-all}
 use Rattle.promises.proofs.HandedOut.{within-inside, not-inside, read-outside, hands-out, hands-out-once, same-behind}
 use Rattle.promises.proofs.Members.{one-among}
 use Rattle.promises.proofs.Refusing.{numbers, first-one, bytesLines, allLines, number-is, start-recorded}
@@ -55,38 +55,20 @@ at-start : (start base : ℕ) → AsFar start base start (base + (start - start)
 at-start start base = (0, omega arith, omega arith)
 
 module _ (buf : List ℕ) (s e base : ℕ) where
+  none-recorded : Recorded s base noRefusal
+  none-recorded some = absurd (some refl)
+
+  barred-recorded : (r : Refusal) → passWindow buf s e base ≡ Barred r → Recorded s base (recorded base s r)
+  barred-recorded r q some = window-recorded buf s e base r q
+
   read-recorded : Recorded s base (packetTold (readPacket buf s e base) .refusal)
-  unfolding readPacket readAnswer
-  read-recorded = go (passWindow buf s e base) refl
-    where
-      go : (x : PacketPass) → passWindow buf s e base ≡ x → Recorded s base (packetTold (readAnswer x (window buf s e) s base) .refusal)
-      go (Passed n) q h = absurd (h refl)
-      go (Barred r) q h = window-recorded buf s e base r q
+  read-recorded = read-all buf s e base (Recorded s base) none-recorded barred-recorded
 
   list-recorded : (m n : ℕ) → Recorded s base (listTold (listPacket buf s e base m n) .refusal)
-  unfolding listPacket listAnswer
-  list-recorded m n = go (passWindow buf s e base) (messageCount (window buf s e)) refl
-    where
-      fits : (t : Bool) (count : ℕ) → Recorded s base (listTold (recordedList base s (pick t (Unlisted (needing count (refused 16 s))) (Listed count))) .refusal)
-      fits true count h = at-start s base
-      fits false count h = absurd (h refl)
-
-      go : (x : PacketPass) (count : ℕ) → passWindow buf s e base ≡ x → Recorded s base (listTold (recordedList base s (listAnswer x s count (min m n))) .refusal)
-      go (Passed p) count q h = fits (ltb (min m n) count) count h
-      go (Barred r) count q h = window-recorded buf s e base r q
+  list-recorded = list-all buf s e base (Recorded s base) none-recorded barred-recorded (λ count some. at-start s base)
 
   message-recorded : (k : ℕ) → Recorded s base (messageTold (messagePacket buf s e base k) .refusal)
-  unfolding messagePacket messageAnswer
-  message-recorded k = go (passWindow buf s e base) (messageCount (window buf s e)) (kthMessage (window buf s e) k) refl
-    where
-      there : (t : Bool) (m : Message) → Recorded s base (messageTold (recordedMessage base s (pick t (Withheld (refused 17 s)) (Given m))) .refusal)
-      there true m h = at-start s base
-      there false m h = absurd (h refl)
-
-      go : (x : PacketPass) (count : ℕ) (m : Message) → passWindow buf s e base ≡ x
-          → Recorded s base (messageTold (recordedMessage base s (messageAnswer x s count k m)) .refusal)
-      go (Passed p) count m q h = there (leb count k) m h
-      go (Barred r) count m q h = window-recorded buf s e base r q
+  message-recorded = message-all buf s e base (Recorded s base) none-recorded barred-recorded (λ some. at-start s base)
 
 -- the recording's is the reader's, where it reached, with its base moved on as far
 recording-recorded : (buf : List ℕ) (start end base : ℕ) → Recorded start base (readRecording buf start end base .refusal)
