@@ -2,7 +2,7 @@
 
 use crate::check;
 use crate::tally::Tally;
-use ch11::raw::Packet;
+use ch11::raw::{Packet, Refusal};
 use generate::opened::{Block, Fault, Opened, MESSAGE, UART};
 use generate::random::Random;
 use generate::recipe::{Placed, Recipe};
@@ -125,7 +125,7 @@ pub fn packet_of(random: &mut Random, rule: u64, opened: &Opened) -> (Recipe, Pl
     (recipe, window)
 }
 
-/// What the reader answers, and what the writer does, has this fault of layout or none: its number, place and reason.
+/// What the reader answers, and what the writer does, has this fault of layout or none: its number, places and reason.
 pub fn held_to(
     tally: &mut Tally,
     recipe: &Recipe,
@@ -133,17 +133,15 @@ pub fn held_to(
     packet: &Packet,
     fault: Option<Fault>,
 ) {
-    let body_at = window.start + recipe.body_at();
-    let wanted = fault.map_or((0, 0, 0), |fault| {
-        (15, (body_at + fault.at) as u64, fault.reason)
+    let wanted = fault.map_or(Refusal::default(), |fault| {
+        check::refusal_in(window, 15, recipe.body_at() + fault.at, fault.reason)
     });
-    let read = packet.refusal;
-    let answer = (read.number, read.place, read.reason);
     let input = || check::describe(window);
-    tally.require("an opened body", &input, &answer, &wanted);
+    tally.require("an opened body", &input, &packet.refusal, &wanted);
     let written = check::write_refusal(tally, recipe, recipe.right_length());
     let answer = (written.number, written.reason);
-    tally.require("an opened body", &input, &answer, &(wanted.0, wanted.2));
+    let wanted = (wanted.number, wanted.reason);
+    tally.require("an opened body", &input, &answer, &wanted);
 }
 
 /// Every pair of list lengths below 6, and every message number below 6.

@@ -2,7 +2,7 @@
 
 use crate::expected::{by_field, same};
 use crate::tally::{Call, Tally, ADD, CLOSE, LIST, ONE_MESSAGE, OPEN, READ, RECORDING, WRITE};
-use crate::{expected, library};
+use crate::{elsewhere, expected, library};
 use ch11::raw::{Draft, Fields, List, Message, Packet, Recording, Refusal, Written};
 use generate::hex;
 use generate::random::Random;
@@ -16,8 +16,19 @@ pub const LIST_PATTERN: u32 = 0xA5A5_A5A5;
 const MARGIN: usize = 4;
 
 pub fn describe(window: &Placed) -> String {
-    let (start, end) = (window.start, window.end);
-    format!("start {} end {} of {}", start, end, hex(&window.buf))
+    let (start, end, bytes) = (window.start, window.end, hex(&window.buf));
+    format!("start {start} end {end} base {} of {bytes}", window.base)
+}
+
+/// A reader's refusal of this number, so many bytes behind the window's start, and for this reason.
+pub fn refusal_in(window: &Placed, number: u64, inside: usize, reason: u64) -> Refusal {
+    Refusal {
+        number,
+        place: (window.start + inside) as u64,
+        reason,
+        recording_place: window.base + inside as u64,
+        ..Refusal::default()
+    }
 }
 
 /// The number that a call returns is the one in its struct, and without a refusal there is no place, no room and no reason. 15 has a
@@ -37,6 +48,30 @@ fn returned(
     } else {
         tally.require("no reason", input, &refusal.reason, &0);
     }
+}
+
+/// Of a reader's answer: 1 is given exactly where the window is outside its buffer or its base is refused, and a refusal's place in the
+/// recording is "a base that the caller gives, plus the distance from the window's start".
+fn based(
+    tally: &mut Tally,
+    call: &Call,
+    input: &dyn Fn() -> String,
+    window: &Placed,
+    refusal: &Refusal,
+) {
+    tally.window(call, window, refusal.number);
+    let is_taken = refusal.number != 1;
+    tally.require("refusal 1", input, &is_taken, &window.is_taken());
+    if refusal.number != 0 {
+        let (place, wanted) = (refusal.recording_place, window.in_recording(refusal.place));
+        tally.require("a refusal's recording place", input, &place, &wanted);
+    }
+}
+
+/// "For the writer and builder the place is 0", in the recording too: no base is given.
+fn without_base(tally: &mut Tally, input: &dyn Fn() -> String, refusal: &Refusal) {
+    let places = [refusal.place, refusal.recording_place];
+    tally.require("no window and no place", input, &places, &[0, 0]);
 }
 
 /// "A refusal returns its number and place; all other results are zero".
@@ -59,9 +94,15 @@ pub fn read(tally: &mut Tally, window: &Placed) -> (u64, Packet) {
     let input = || describe(window);
     tally.compare(&READ, &input, &answer, &wanted);
     returned(tally, &READ, &input, answer.0, &answer.1.refusal);
+    based(tally, &READ, &input, window, &answer.1.refusal);
     zero_beside!(tally, &input, answer.1, Packet);
     if answer.0 == 0 {
         tally.accepted(answer.1.fields.kind, answer.1.fields.flags);
+        let place = answer.1.recording_place;
+        tally.require("a packet's recording place", &input, &place, &window.base);
+    }
+    if let Some(there) = tally.rebased(&READ, window) {
+        elsewhere::equal_packets(tally, window, &there);
     }
     answer
 }
@@ -92,6 +133,7 @@ pub fn list(
     tally.compare(&LIST, &input, &answer, &wanted);
     let (number, (list, first, second)) = answer;
     returned(tally, &LIST, &input, number, &list.refusal);
+    based(tally, &LIST, &input, window, &list.refusal);
     zero_beside!(tally, &input, list, List);
     let kept = |list_of: &[u32]| {
         let told = MARGIN..MARGIN + list.count as usize;
@@ -100,6 +142,9 @@ pub fn list(
     };
     let both = (kept(&first), kept(&second));
     tally.require("entries past the count", &input, &both, &(true, true));
+    if let Some(there) = tally.rebased(&LIST, window) {
+        elsewhere::equal_lists(tally, window, &there, [starts, lengths]);
+    }
     let lent = |list: Vec<u32>| list[MARGIN..list.len() - MARGIN].to_vec();
     (list, [lent(first), lent(second)])
 }
@@ -110,7 +155,11 @@ pub fn message(tally: &mut Tally, window: &Placed, number: usize) -> (u64, Messa
     let input = || format!("message {}; {}", number, describe(window));
     tally.compare(&ONE_MESSAGE, &input, &answer, &wanted);
     returned(tally, &ONE_MESSAGE, &input, answer.0, &answer.1.refusal);
+    based(tally, &ONE_MESSAGE, &input, window, &answer.1.refusal);
     zero_beside!(tally, &input, answer.1, Message);
+    if let Some(there) = tally.rebased(&ONE_MESSAGE, window) {
+        elsewhere::equal_messages(tally, window, &there, number);
+    }
     answer
 }
 
@@ -119,7 +168,18 @@ pub fn recording(tally: &mut Tally, window: &Placed) -> (u64, Recording) {
     let wanted = expected::read_recording(window);
     let input = || describe(window);
     tally.compare(&RECORDING, &input, &answer, &wanted);
-    returned(tally, &RECORDING, &input, answer.0, &answer.1.refusal);
+    let (number, recording) = answer;
+    returned(tally, &RECORDING, &input, number, &recording.refusal);
+    based(tally, &RECORDING, &input, window, &recording.refusal);
+    if number != 0 && recording.accepted > 0 {
+        tally.later(window, number);
+    }
+    let reached = recording.recording_reached;
+    let wanted = window.in_recording(recording.reached);
+    tally.require("the recording place reached", &input, &reached, &wanted);
+    if let Some(there) = tally.rebased(&RECORDING, window) {
+        elsewhere::equal_recordings(tally, window, &there);
+    }
     answer
 }
 
@@ -197,6 +257,7 @@ pub fn write(tally: &mut Tally, fields: &Fields, body: &[u8], room: usize) -> (W
     tally.compare(&WRITE, &input, &answer, &run(expected::write_packet));
     let (number, (written, mut out)) = answer;
     returned(tally, &WRITE, &input, number, &written.refusal);
+    without_base(tally, &input, &written.refusal);
     zero_beside!(tally, &input, written, Written);
     let packet = MARGIN..MARGIN + written.length as usize;
     let mut bytes = out.iter().enumerate();
@@ -275,6 +336,7 @@ pub fn step(tally: &mut Tally, draft: Draft, buf: &[u8], step: &Step) -> (u64, D
     tally.compare(call, &input, &answer, &(wanted.0, (wanted.1, theirs)));
     let (_, (_, ours)) = answer;
     returned(tally, call, &input, number, &after.refusal);
+    without_base(tally, &input, &after.refusal);
     let built = ours[lent].to_vec();
     if number != 0 {
         let refusal = after.refusal;

@@ -42,7 +42,7 @@ macro_rules! refused {
 }
 
 fn refusal(from: second::Refusal) -> Refusal {
-    same!(from => Refusal: number place room reason)
+    same!(from => Refusal: number place room reason recording_place)
 }
 
 fn part(from: second::Part) -> Part {
@@ -50,7 +50,8 @@ fn part(from: second::Part) -> Part {
 }
 
 fn packet(from: second::Packet) -> (u64, Packet) {
-    let (number, mut packet) = accepted!(from => Packet: length data_length header_sum data_sum);
+    let (number, mut packet) =
+        accepted!(from => Packet: length data_length header_sum data_sum recording_place);
     packet.fields = by_field!(same! from.fields => Fields);
     packet.header = part(from.header);
     packet.secondary = part(from.secondary);
@@ -61,7 +62,7 @@ fn packet(from: second::Packet) -> (u64, Packet) {
 }
 
 pub fn read_packet(w: &Placed) -> (u64, Packet) {
-    match second::read_packet(&w.buf, w.start, w.end) {
+    match second::read_packet(&w.buf, w.start, w.end, w.base) {
         Ok(from) => packet(from),
         Err(no) => refused!(no => Packet),
     }
@@ -69,7 +70,7 @@ pub fn read_packet(w: &Placed) -> (u64, Packet) {
 
 pub fn list_messages(w: &Placed, starts: &mut [u32], lengths: &mut [u32]) -> (u64, List) {
     let mut list = List::default();
-    match second::list_messages(&w.buf, w.start, w.end, starts, lengths) {
+    match second::list_messages(&w.buf, w.start, w.end, w.base, starts, lengths) {
         Ok(count) => list.count = count,
         Err(no) => return refused!(no => List),
     }
@@ -77,15 +78,15 @@ pub fn list_messages(w: &Placed, starts: &mut [u32], lengths: &mut [u32]) -> (u6
 }
 
 pub fn message(w: &Placed, number: usize) -> (u64, Message) {
-    match second::message(&w.buf, w.start, w.end, number) {
+    match second::message(&w.buf, w.start, w.end, w.base, number) {
         Ok(from) => accepted!(from => Message: time id start length),
         Err(no) => refused!(no => Message),
     }
 }
 
 pub fn read_recording(w: &Placed) -> (u64, Recording) {
-    let from = second::read_recording(&w.buf, w.start, w.end);
-    let (_, mut recording) = accepted!(from => Recording: accepted reached);
+    let from = second::read_recording(&w.buf, w.start, w.end, w.base);
+    let (_, mut recording) = accepted!(from => Recording: accepted reached recording_reached);
     recording.refusal = refusal(from.refusal);
     (from.refusal.number, recording)
 }

@@ -20,10 +20,13 @@ pub fn all(tally: &mut Tally, random: &mut Random) {
 fn many_packets(tally: &mut Tally, random: &mut Random) {
     let packets = (0..70_000).flat_map(|_| packet_of_length(random, 28));
     let mut window = Placed::whole(packets.collect());
+    window.base = window.greatest_base();
     for (number, accepted) in [(0, 70_000), (10, 69_999)] {
         let (returned, recording) = check::recording(tally, &window);
-        let answer = (returned, recording.accepted, recording.reached);
-        let wanted = (number, accepted, 28 * accepted);
+        let reached = (recording.reached, recording.recording_reached);
+        let answer = (returned, recording.accepted, reached);
+        let length = 28 * accepted;
+        let wanted = (number, accepted, (length, window.base + length));
         tally.require("70,000 packets", &String::new, &answer, &wanted);
         window.end -= 1;
     }
@@ -69,7 +72,7 @@ fn longest(tally: &mut Tally, random: &mut Random) {
     for flags in 1..4 {
         let mut recipe = Recipe::sound(random, 0x01, flags);
         recipe.body = vec![0xA7; 134_217_728 - recipe.overhead()];
-        let mut window = Placed::whole(recipe.bytes());
+        let mut window = Placed::whole(recipe.bytes()).with_some_base(random);
         let (whole, _) = check::read(tally, &window);
         window.end -= 1;
         let (cut, _) = check::read(tally, &window);

@@ -24,20 +24,20 @@ macro_rules! call {
 }
 
 pub fn read_packet(w: &Placed) -> (u64, Packet) {
-    call!(ch11_read_packet: w.buf.as_ptr(), w.buf.len(), w.start, w.end)
+    call!(ch11_read_packet: w.buf.as_ptr(), w.buf.len(), w.start, w.end, w.base)
 }
 
 pub fn list_messages(w: &Placed, starts: &mut [u32], lengths: &mut [u32]) -> (u64, List) {
     let (first, second) = (starts.as_mut_ptr(), lengths.as_mut_ptr());
-    call!(ch11_list_messages: w.buf.as_ptr(), w.buf.len(), w.start, w.end, first, starts.len(), second, lengths.len())
+    call!(ch11_list_messages: w.buf.as_ptr(), w.buf.len(), w.start, w.end, w.base, first, starts.len(), second, lengths.len())
 }
 
 pub fn message(w: &Placed, number: usize) -> (u64, Message) {
-    call!(ch11_message: w.buf.as_ptr(), w.buf.len(), w.start, w.end, number)
+    call!(ch11_message: w.buf.as_ptr(), w.buf.len(), w.start, w.end, w.base, number)
 }
 
 pub fn read_recording(w: &Placed) -> (u64, Recording) {
-    call!(ch11_read_recording: w.buf.as_ptr(), w.buf.len(), w.start, w.end)
+    call!(ch11_read_recording: w.buf.as_ptr(), w.buf.len(), w.start, w.end, w.base)
 }
 
 pub fn write_packet(fields: &Fields, body: &[u8], out: &mut [u8]) -> (u64, Written) {

@@ -1,6 +1,7 @@
 //! Compares every call of the C interface with the second program, on inputs made for the purpose: `compare CALLS [SEED]` goes through
 //! the systematic inputs, then through rounds by chance until at least CALLS calls are compared.
 
+mod bases;
 mod bodies;
 mod building;
 mod cases;

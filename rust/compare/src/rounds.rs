@@ -55,7 +55,7 @@ fn altered(tally: &mut Tally, random: &mut Random) {
     readers(tally, random, &window);
 }
 
-/// A window of any start and end, also outside its buffer.
+/// A window of any start, end and base, also outside its buffer, also past the last place of a recording.
 fn windows(tally: &mut Tally, random: &mut Random) {
     let mut window = Recipe::any(random).placed(random);
     let mut near = |place: usize| match random.below(4) {
@@ -65,6 +65,8 @@ fn windows(tally: &mut Tally, random: &mut Random) {
         _ => place,
     };
     (window.start, window.end) = (near(window.start), near(window.end));
+    let (greatest, any) = (window.greatest_base(), random.wide());
+    window.base = random.choose(&[greatest, greatest.saturating_add(1), any.min(greatest), any]);
     readers(tally, random, &window);
 }
 
@@ -73,14 +75,23 @@ fn recordings(tally: &mut Tally, random: &mut Random) {
     let most = random.choose(&[1, 4, 10, 36]);
     let packets = recording(random, most);
     let start = random.index(7);
-    let mut window = Placed::whole(packets).elsewhere(random, start);
-    check::recording(tally, &window);
+    let window = Placed::whole(packets).elsewhere(random, start);
+    let mut window = window.with_some_base(random);
+    let (_, whole) = check::recording(tally, &window);
     if random.one_in(4) {
         elsewhere::equal(tally, random, &window);
     }
+    // "the one-packet reader's base is moved on by the distance from the window's start"
+    let mut handed_out = 0;
     while let (0, packet) = check::window(tally, random, &window) {
         window.start += packet.length as usize;
+        window.base += packet.length;
+        handed_out += 1;
     }
+    let reached = [handed_out, window.start as u64, window.base];
+    let told = [whole.accepted, whole.reached, whole.recording_reached];
+    let input = || check::describe(&window);
+    tally.require("Handed out", &input, &told, &reached);
 }
 
 /// A struct's fields, to be changed.
@@ -111,7 +122,7 @@ fn writer(tally: &mut Tally, random: &mut Random) {
 /// A packet of up to the longest length.
 fn large(tally: &mut Tally, random: &mut Random) {
     let length = 28 + 4 * random.index(131_066);
-    let mut window = Placed::whole(packet_of_length(random, length));
+    let mut window = Placed::whole(packet_of_length(random, length)).with_some_base(random);
     window.end -= random.index(2);
     readers(tally, random, &window);
 }

@@ -3,6 +3,7 @@
 
 use crate::tally::Tally;
 use crate::{bodies, building, cases, check, elsewhere, flaws, large};
+use ch11::raw::{Recording, Refusal};
 use generate::causes::{causes, with_faults, Cause};
 use generate::opened::{MESSAGE, UART};
 use generate::random::Random;
@@ -35,14 +36,18 @@ pub fn all(tally: &mut Tally, random: &mut Random) {
     }
 }
 
-/// Starts and ends in and about a buffer, and near 2^64.
+/// Starts and ends in and about a buffer, and near 2^64, with bases on both sides of the greatest.
 fn windows(tally: &mut Tally, random: &mut Random) {
     let near = [0, 1, 16, 17, 39, 40, 41, 64, 1 << 32];
     let high = [1 << 63, usize::MAX - 23, usize::MAX - 1, usize::MAX];
     for start in near.iter().chain(&high) {
         for end in near.iter().chain(&high) {
-            let (buf, start, end) = (CASE_L.to_vec(), *start, *end);
-            check::window(tally, random, &Placed { buf, start, end });
+            let mut window = Placed::new(CASE_L.to_vec(), *start, *end, 0);
+            let (greatest, any) = (window.greatest_base(), random.wide());
+            for base in [0, any, greatest, greatest.saturating_add(1), u64::MAX] {
+                window.base = base;
+                check::window(tally, random, &window);
+            }
         }
     }
 }
@@ -159,17 +164,39 @@ fn faulty_window(tally: &mut Tally, random: &mut Random, faults: &[Cause]) {
     } else {
         (0, 0)
     };
-    let wanted = (number, (window.start + inside) as u64, reason);
-    let (returned, packet) = check::window(tally, random, &window);
-    let answer = (returned, packet.refusal.place, packet.refusal.reason);
-    tally.require(
-        "number, place and reason by rule",
-        &|| rules_of(faults),
-        &answer,
-        &wanted,
-    );
+    let wanted = check::refusal_in(&window, number, inside, reason);
+    let (_, packet) = check::window(tally, random, &window);
+    let rules = || rules_of(faults);
+    tally.require("a refusal by rule", &rules, &packet.refusal, &wanted);
     if faults.len() == 1 {
         elsewhere::equal(tally, random, &window);
+        faulty_packet_behind(tally, random, &window, &wanted);
+    }
+}
+
+/// The same packet behind sound ones, under a base by chance and under the greatest: the recording reader stops there, its refusal so much
+/// further on.
+fn faulty_packet_behind(tally: &mut Tally, random: &mut Random, alone: &Placed, refusal: &Refusal) {
+    if refusal.number == 1 || alone.start == alone.end {
+        return;
+    }
+    let count = 1 + random.index(3);
+    let packets = (0..count).flat_map(|_| Recipe::any(random).bytes());
+    let packets: Vec<u8> = packets.collect();
+    let mut window = alone.behind(&packets).with_some_base(random);
+    let reached = (window.start + packets.len()) as u64;
+    let inside = packets.len() + refusal.place as usize - alone.start;
+    for base in [window.base, window.greatest_base()] {
+        window.base = base;
+        let wanted = Recording {
+            refusal: check::refusal_in(&window, refusal.number, inside, refusal.reason),
+            accepted: count as u64,
+            reached,
+            recording_reached: window.in_recording(reached),
+        };
+        let (_, recording) = check::recording(tally, &window);
+        let input = || check::describe(&window);
+        tally.require("a later packet's refusal", &input, &recording, &wanted);
     }
 }
 
@@ -260,12 +287,12 @@ fn number_for_change(recipe: &Recipe, at: usize) -> Option<u64> {
 
 /// All readers on a packet with a changed unit: it is refused with this number, at its start.
 fn altered_packet(tally: &mut Tally, random: &mut Random, altered: Vec<u8>, number: Option<u64>) {
-    let window = Placed::whole(altered);
-    let (returned, packet) = check::window(tally, random, &window);
+    let window = Placed::whole(altered).with_some_base(random);
+    let (_, packet) = check::window(tally, random, &window);
     if let Some(number) = number {
-        let answer = (returned, packet.refusal.place);
+        let wanted = check::refusal_in(&window, number, 0, 0);
         let input = || check::describe(&window);
-        tally.require("a changed unit", &input, &answer, &(number, 0));
+        tally.require("a changed unit", &input, &packet.refusal, &wanted);
     }
 }
 
@@ -275,6 +302,7 @@ fn cuts(tally: &mut Tally, random: &mut Random) {
         let mut window = Placed::whole(recipe.bytes());
         while window.end > 0 {
             window.end -= 1;
+            window = window.with_some_base(random);
             check::window(tally, random, &window);
         }
     }

@@ -1,8 +1,9 @@
 //! Counts the comparisons, prints the differences, and tells what was covered.
 
-use generate::recipe::{legal_flags, TYPES};
+use crate::bases::Bases;
+use generate::recipe::{legal_flags, Placed, TYPES};
 use std::collections::{BTreeMap, BTreeSet};
-use std::fmt::Debug;
+use std::fmt::{Debug, Display};
 use std::process::exit;
 
 /// A call of the C interface: its place in the tally, its name, the numbers that it can return, in lists, and the reasons that it can
@@ -45,6 +46,17 @@ static CALLS: [&Call; 8] = [
     &CLOSE,
 ];
 
+/// The calls that take a window and a base, each with the numbers that it can give for a packet behind others.
+static OF_WINDOWS: [(&Call, &[u64]); 4] = [
+    (&READ, &[]),
+    (&LIST, &[]),
+    (&ONE_MESSAGE, &[]),
+    (
+        &RECORDING,
+        &[2, 3, 4, 5, 6, 7, 8, 9, 10, 11, 12, 13, 14, 15],
+    ),
+];
+
 /// Describes a call's input, where it is asked for.
 type Input<'a> = &'a dyn Fn() -> String;
 
@@ -60,6 +72,8 @@ pub struct Tally {
     /// Types and flags of the packets that the reader accepted.
     types: BTreeSet<u64>,
     flags: BTreeSet<u64>,
+    /// The windows and bases that each reader was given.
+    bases: [Bases; 4],
     differences: u64,
 }
 
@@ -89,6 +103,21 @@ impl Tally {
             let (given, can) = (format!("reason {}", reason), format!("{:?}", reasons));
             self.differs(name, &input(), &given, &can);
         }
+    }
+
+    /// Counts a reader's call by its window and base.
+    pub fn window(&mut self, call: &Call, window: &Placed, number: u64) {
+        self.bases[call.0].count(window, number);
+    }
+
+    /// Counts the refusal of a recording's packet that others are ahead of.
+    pub fn later(&mut self, window: &Placed, number: u64) {
+        self.bases[RECORDING.0].count_later(window, number);
+    }
+
+    /// Now and then, where the window isn't refused, the same with another base.
+    pub fn rebased(&mut self, call: &Call, window: &Placed) -> Option<Placed> {
+        self.bases[call.0].rebased(window)
     }
 
     /// Compares without counting: a property that is no call of its own.
@@ -132,6 +161,10 @@ impl Tally {
             }
             println!();
         }
+        for (Call(index, name, numbers, _), of_later) in OF_WINDOWS {
+            print!("{}:", name);
+            missing += self.bases[*index].report(&numbers.concat(), of_later);
+        }
         let all_types = self.types == BTreeSet::from(TYPES);
         let all_flags = self.flags == legal_flags().into_iter().collect();
         let (types, flags) = (self.types.len(), self.flags.len());
@@ -142,7 +175,7 @@ impl Tally {
         if !all_types || !all_flags {
             println!("not those of the rules: {:?} {:?}", self.types, self.flags);
         }
-        println!("numbers and reasons never met: {}", missing);
+        println!("numbers, reasons and bases never met: {}", missing);
         let (calls, differences) = (in_thousands(self.calls()), self.differences);
         println!("compared {} calls, {} differences", calls, differences);
         missing == 0 && all_types && all_flags && differences == 0
@@ -150,11 +183,11 @@ impl Tally {
 }
 
 /// Prints how often each of these was met, and answers how many never were.
-fn print_counts(counts: &BTreeMap<u64, u64>, wanted: &[u64]) -> u64 {
+pub fn print_counts<K: Ord + Display>(counts: &BTreeMap<K, u64>, wanted: &[K]) -> u64 {
     let mut missing = 0;
-    for number in wanted {
-        let count = counts.get(number).unwrap_or(&0);
-        print!(" {}:{}", number, count);
+    for one in wanted {
+        let count = counts.get(one).unwrap_or(&0);
+        print!(" {}:{}", one, count);
         missing += u64::from(*count == 0);
     }
     missing

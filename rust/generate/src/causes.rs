@@ -2,7 +2,7 @@
 
 use crate::opened::{Block, Fault, Flaws, Opened, MESSAGE, UART};
 use crate::random::Random;
-use crate::recipe::{some_rule, sum_width, time_out_of_form, Recipe, TYPES};
+use crate::recipe::{some_rule, sum_width, time_out_of_form, ChooseBase, Recipe, TYPES};
 
 type Apply = fn(&mut Recipe, &mut Random);
 
@@ -38,6 +38,11 @@ static RULES: &[Rule] = &[
         |r, _| r.window = Some(|_, end, _| (usize::MAX, end)),
         |r, _| r.window = Some(|_, _, _| (usize::MAX, usize::MAX)),
         |r, _| r.window = Some(|_, _, _| (usize::MAX - 23, usize::MAX)),
+    ]),
+    Rule(1, Readers, "1 also where base plus window length would pass 2^64 - 1", &[
+        |r, _| give_refused_base(r, |greatest| greatest.saturating_add(1)),
+        |r, _| give_refused_base(r, |greatest| u64::MAX - (u64::MAX - greatest) / 2),
+        |r, _| give_refused_base(r, |_| u64::MAX),
     ]),
     Rule(2, Readers, "fewer than 24 bytes in the window", &[
         |r, _| r.kept = Some(|_| 23),
@@ -268,6 +273,15 @@ pub fn with_faults(random: &mut Random, faults: &[Cause]) -> (Recipe, u64) {
         (cause.apply)(&mut recipe, random);
     }
     (recipe, in_order.last().map_or(0, |cause| cause.number))
+}
+
+/// Gives the window a base that is refused. An empty window takes every base, so that it gets a byte.
+fn give_refused_base(recipe: &mut Recipe, base: ChooseBase) {
+    recipe.base = Some(base);
+    let length = recipe.right_length();
+    if recipe.kept.map_or(false, |kept| kept(length) == 0) {
+        recipe.kept = Some(|_| 1);
+    }
 }
 
 fn some_reserved_type(random: &mut Random) -> u64 {

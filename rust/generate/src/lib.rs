@@ -1,6 +1,6 @@
 //! Makes packets, recordings, writer inputs and builder inputs, sound and faulty, for the comparison of two programs of documents 01 and
-//! 02. It has its own code for putting bytes together. Sentences in quotation marks are those of document 01, or of document 02, §2, where
-//! they speak of reasons.
+//! 02. It has its own code for putting bytes together. Sentences in quotation marks are those of document 01, or of document 02: §2 where
+//! they speak of reasons, §9 where they speak of bases.
 
 #![forbid(unsafe_code)]
 

@@ -23,6 +23,9 @@ const SECOND: u64 = 1_000_000_000;
 /// Bends a window: start, end and buffer length to start and end.
 pub type BendWindow = fn(usize, usize, usize) -> (usize, usize);
 
+/// Gives a base by the greatest one that is not refused.
+pub type ChooseBase = fn(u64) -> u64;
+
 #[derive(Clone, Debug, Default)]
 pub struct Recipe {
     pub sync: u64,
@@ -49,16 +52,19 @@ pub struct Recipe {
     /// How many of the packet's bytes are in the window, where not all.
     pub kept: Option<fn(usize) -> usize>,
     pub window: Option<BendWindow>,
+    /// The window's base, where it isn't any that is not refused.
+    pub base: Option<ChooseBase>,
     /// The output lent to the writer, where it isn't P.
     pub output: Option<fn(usize) -> usize>,
 }
 
-/// A buffer with a window in it.
+/// A buffer with a window in it, and the window's base: where it starts in the recording.
 #[derive(Clone, Debug)]
 pub struct Placed {
     pub buf: Vec<u8>,
     pub start: usize,
     pub end: usize,
+    pub base: u64,
 }
 
 /// Puts a little-endian number of `width` bytes behind the others.
@@ -259,7 +265,7 @@ impl Recipe {
         bytes
     }
 
-    /// The packet somewhere in a buffer, its window bent as the recipe says. Behind a packet that is cut stands its rest.
+    /// The packet somewhere in a buffer and in a recording, its window bent as the recipe says. Behind a packet that is cut stands its rest.
     pub fn placed(&self, random: &mut Random) -> Placed {
         let packet = self.bytes();
         let start = random.index(10);
@@ -275,7 +281,11 @@ impl Recipe {
         buf.extend(leftovers(random));
         let bend = self.window.unwrap_or(|start, end, _| (start, end));
         let (start, end) = bend(start, end, buf.len());
-        Placed { buf, start, end }
+        let mut window = Placed::new(buf, start, end, 0).with_some_base(random);
+        if let Some(choose) = self.base {
+            window.base = choose(window.greatest_base());
+        }
+        window
     }
 
     /// The length of the output lent to the writer.
@@ -297,10 +307,25 @@ pub fn leftovers(random: &mut Random) -> Vec<u8> {
 }
 
 impl Placed {
-    /// A window over the whole of a buffer.
+    pub fn new(buf: Vec<u8>, start: usize, end: usize, base: u64) -> Placed {
+        Placed {
+            buf,
+            start,
+            end,
+            base,
+        }
+    }
+
+    /// A window over the whole of a buffer, at the recording's first byte.
     pub fn whole(buf: Vec<u8>) -> Placed {
-        let (start, end) = (0, buf.len());
-        Placed { buf, start, end }
+        let end = buf.len();
+        Placed::new(buf, 0, end, 0)
+    }
+
+    /// The same window with a base of any size that is not refused, often the greatest.
+    pub fn with_some_base(mut self, random: &mut Random) -> Placed {
+        self.base = random.wide().min(self.greatest_base());
+        self
     }
 
     /// The same window in another buffer, at this start, with other bytes ahead of it and behind it.
@@ -309,10 +334,35 @@ impl Placed {
         buf.extend_from_slice(&self.buf[self.start..self.end]);
         let end = buf.len();
         buf.extend(leftovers(random));
-        Placed { buf, start, end }
+        Placed::new(buf, start, end, self.base)
+    }
+
+    /// The window with these bytes put in at its start.
+    pub fn behind(&self, bytes: &[u8]) -> Placed {
+        let mut longer = self.clone();
+        longer.buf.splice(self.start..self.start, bytes.to_vec());
+        longer.end += bytes.len();
+        longer
     }
 
     pub fn is_within_buffer(&self) -> bool {
         self.start <= self.end && self.end <= self.buf.len()
+    }
+
+    /// "1 also where base plus window length would pass 2^64 - 1": the greatest base that is not refused. A window whose start is past its
+    /// end has no length.
+    pub fn greatest_base(&self) -> u64 {
+        u64::MAX - self.end.saturating_sub(self.start) as u64
+    }
+
+    /// Whether none of 1's causes applies.
+    pub fn is_taken(&self) -> bool {
+        self.is_within_buffer() && self.base <= self.greatest_base()
+    }
+
+    /// The place in the recording of a place in the buffer: "a base that the caller gives, plus the distance from the window's start".
+    pub fn in_recording(&self, place: u64) -> u64 {
+        let distance = place.wrapping_sub(self.start as u64);
+        self.base.wrapping_add(distance)
     }
 }

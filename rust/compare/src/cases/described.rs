@@ -35,7 +35,7 @@ impl Packets {
     }
 
     /// A buffer of packets and pieces of bytes, some of its bytes altered, and the window in it: all of it, from a byte on, as many bytes as
-    /// are kept, or as it is named.
+    /// are kept, or as it is named; its base is 0 or as it is named.
     pub fn window(&self, given: &[String]) -> Placed {
         let mut pieces: Vec<Vec<String>> = Vec::new();
         for word in given {
@@ -66,6 +66,7 @@ impl Packets {
             Some(kept) => window.start + kept,
             None => place("end").unwrap_or(window.end),
         };
+        window.base = named(given, "base").unwrap_or(0);
         window
     }
 }

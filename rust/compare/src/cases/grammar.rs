@@ -17,8 +17,8 @@ const BENT: [&str; 8] = [
     "secondary_sum_off",
     "data_sum_off",
 ];
-/// Pieces of bytes, and the window.
-const WINDOW: [&str; 5] = ["bytes", "from", "kept", "start", "end"];
+/// Pieces of bytes, the window and its base.
+const WINDOW: [&str; 6] = ["bytes", "from", "kept", "start", "end", "base"];
 
 /// How many bare words a command takes, the words it needs, and those it may have.
 struct Form(
@@ -69,8 +69,28 @@ fn is_said_twice(line: &Line) -> bool {
     line.given.split(|word| is_piece(&word)).any(of_piece)
 }
 
+/// The recording places in a line's outcome, each with the place that it goes by: a refusal's or an accepted packet's, and a recording's
+/// that is reached.
+pub fn recording_places(line: &Line) -> Vec<(&'static str, &'static str)> {
+    let mut places = Vec::new();
+    if line.command == "read" || line.wanted.first() != Some(&"0") {
+        places.push(("recording_place", "at"));
+    }
+    if line.command == "recording" {
+        places.push(("recording_reached", "reached"));
+    }
+    places
+}
+
+/// Whether a line that names a base writes each of these places.
+fn are_places_written(line: &Line) -> bool {
+    let is_written = |name: &str| line.wanted.iter().any(|word| halves(word).0 == name);
+    let mut places = recording_places(line).into_iter();
+    places.all(|(name, _)| is_written(name))
+}
+
 /// Ends the run where the line is none of the table: a word that its command does not take, lacks or has twice, a window named by half or in two
-/// ways, a case without a sentence or an outcome, an outcome or several values where there is no case.
+/// ways, a base without the places by it, a case without a sentence or an outcome, an outcome or several values where there is no case.
 pub fn check(line: &Line, cases: usize) {
     let Form(bare, needed, allowed) = form(line.command);
     let prepares = ["packet", "buffer", "state"].contains(&line.command);
@@ -89,6 +109,7 @@ pub fn check(line: &Line, cases: usize) {
         && !is_said_twice(line)
         && has("start") == has("end")
         && !(has("start") && (has("from") || has("kept")))
+        && (!has("base") || are_places_written(line))
         && prepares == line.wanted.is_empty()
         && (prepares || !line.sentence.is_empty())
         && (!prepares || cases == 1);

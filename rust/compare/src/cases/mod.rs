@@ -89,8 +89,7 @@ impl Cases<'_> {
     /// The same window further back in a buffer, with case L behind it.
     fn moved(&mut self, window: &Placed) -> Placed {
         let buf = [&self.random.bytes(7), &window.buf[..], &CASE_L].concat();
-        let (start, end) = (window.start + 7, window.end + 7);
-        Placed { buf, start, end }
+        Placed::new(buf, window.start + 7, window.end + 7, window.base)
     }
 
     /// One of the readers on this window, or the recording reader; places in its answer count from `here`.
@@ -151,8 +150,8 @@ impl Cases<'_> {
     /// Requires that the answer has the words of the line: all of a refusal's, and of the values of an acceptance those that are named.
     fn require(&mut self, line: &Line, given: &[String], told: Told) {
         self.count += 1;
-        let mut wanted: Told = line.wanted.iter().map(|word| plain(word)).collect();
-        let names: Vec<&str> = line.wanted.iter().map(|word| halves(word).0).collect();
+        let mut wanted = outcome(line, given);
+        let names: Vec<&str> = wanted.iter().map(|word| halves(word).0).collect();
         let refused = told[0] != "0";
         let is_asked = |word: &String| refused || names.contains(&halves(word).0);
         let mut told: Told = told.into_iter().filter(is_asked).collect();
@@ -161,6 +160,20 @@ impl Cases<'_> {
         let input = || format!("{}, with {}", line.text, given.join(" "));
         self.tally.require(line.sentence, &input, &told, &wanted);
     }
+}
+
+/// What the line wants. The recording places that it doesn't write are those by a base of 0: distances from the window's start, and 0 for
+/// the writer and builder.
+fn outcome(line: &Line, given: &[String]) -> Told {
+    let mut wanted: Told = line.wanted.iter().map(|word| plain(word)).collect();
+    let start = named(given, "start").unwrap_or(0);
+    for (name, place) in grammar::recording_places(line) {
+        if named(&wanted, name).is_none() {
+            let distance = named(&wanted, place).map_or(0, |place| place - start);
+            wanted.push(format!("{}={}", name, distance));
+        }
+    }
+    wanted
 }
 
 fn bytes_in(given: &[String]) -> Vec<u8> {

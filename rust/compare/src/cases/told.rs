@@ -12,7 +12,7 @@ macro_rules! words {
 }
 
 /// 0 and the answer's values, or a refusal: its place counts from `here`; without a window the place is 0, and not told, nor is a room or
-/// reason of 0. That all other results are zero then, `check` requires of every call.
+/// reason of 0. Its place in the recording is always told. That all other results are zero then, `check` requires of every call.
 fn answer(refusal: &Refusal, here: Option<u64>, values: Vec<String>) -> Told {
     let number = vec![refusal.number.to_string()];
     if refusal.number == 0 {
@@ -29,6 +29,7 @@ fn answer(refusal: &Refusal, here: Option<u64>, values: Vec<String>) -> Told {
     if refusal.reason != 0 {
         told.extend(words!("reason" refusal.reason));
     }
+    told.extend(words!("recording_place" refusal.recording_place));
     told
 }
 
@@ -38,8 +39,8 @@ pub fn packet(packet: &Packet, here: u64) -> Told {
     let values = words!(
         "channel" fields.channel, "version" fields.version, "sequence" fields.sequence, "flags" fields.flags, "type" fields.kind,
         "rtc" fields.rtc, "time" fields.time, "P" packet.length, "D" packet.data_length, "header_sum" packet.header_sum,
-        "data_sum" packet.data_sum, "header" part(packet.header), "secondary" part(packet.secondary), "body" part(packet.body),
-        "filler" part(packet.filler), "sum" part(packet.sum)
+        "data_sum" packet.data_sum, "recording_place" packet.recording_place, "header" part(packet.header),
+        "secondary" part(packet.secondary), "body" part(packet.body), "filler" part(packet.filler), "sum" part(packet.sum)
     );
     answer(&packet.refusal, Some(here), values)
 }
@@ -66,7 +67,9 @@ pub fn message(message: &Message, here: u64) -> Told {
 /// "The answer, never zeroed, is the number accepted, the place reached and the refusal there, or 0".
 pub fn recording(recording: &Recording, here: u64) -> Told {
     let reached = recording.reached.wrapping_sub(here);
-    let values = words!("accepted" recording.accepted, "reached" reached);
+    let values = words!(
+        "accepted" recording.accepted, "reached" reached, "recording_reached" recording.recording_reached
+    );
     let refusal = answer(&recording.refusal, Some(here), Vec::new());
     [refusal, values].concat()
 }
