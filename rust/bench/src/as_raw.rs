@@ -19,6 +19,7 @@ pub fn packet(answer: Result<same::Packet, same::Refusal>) -> raw::Packet {
         data_length: u64::from(packet.data_length),
         header_sum: u64::from(packet.header_sum),
         data_sum: u64::from(packet.data_sum),
+        recording_place: packet.recording_place,
         header: part(packet.header),
         secondary: part(packet.secondary),
         body: part(packet.body),
@@ -34,6 +35,7 @@ pub fn recording(recording: same::Recording) -> raw::Recording {
             .map_or_else(raw::Refusal::default, refusal),
         accepted: recording.accepted as u64,
         reached: recording.reached as u64,
+        recording_reached: recording.recording_reached,
     }
 }
 
@@ -77,6 +79,7 @@ fn refusal(refusal: same::Refusal) -> raw::Refusal {
         place: refusal.place as u64,
         room: refusal.room as u64,
         reason: u64::from(refusal.reason),
+        recording_place: refusal.recording_place,
     }
 }
 

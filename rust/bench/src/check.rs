@@ -17,15 +17,18 @@ const SPOILT_TWICE: usize = 64;
 /// What stands in lists and outputs beforehand.
 const UNTOUCHED: u8 = 0xA5;
 
+/// The base of most windows: 500 GB into a recording.
+const FAR: u64 = 500_000_000_000;
+
 /// Compares the row's call on its packet, or a recording's answer and all calls on its packets, and then spoilt copies of the first
 /// packet if it is short.
 pub fn check(input: &Input) {
     let bytes = input.bytes();
-    compare(input.call, bytes, 0, bytes.len());
+    compare(input.call, bytes, 0, bytes.len(), FAR);
     if input.call == Call::ReadRecording {
         check_recording(input);
     }
-    let first = compare_packet(bytes, 0, bytes.len()).length as usize;
+    let first = compare_packet(bytes, 0, bytes.len(), FAR).length as usize;
     if first <= SPOILT {
         check_spoilt(input.call, &bytes[..first]);
     }
@@ -61,12 +64,13 @@ fn check_recording(input: &Input) {
     let mut at = 0;
     let mut previous = &bytes[..0];
     while at < bytes.len() {
-        let length = compare_packet(bytes, at, bytes.len()).length as usize;
+        let base = FAR + at as u64;
+        let length = compare_packet(bytes, at, bytes.len(), base).length as usize;
         let packet = &bytes[at..at + length];
         if packet != previous {
-            compare(Call::ListMessages, packet, 0, length);
-            compare(Call::Message, packet, 0, length);
-            compare(Call::WritePacket, packet, 0, length);
+            compare(Call::ListMessages, packet, 0, length, base);
+            compare(Call::Message, packet, 0, length, base);
+            compare(Call::WritePacket, packet, 0, length, base);
         }
         previous = packet;
         packets += 1;
@@ -78,16 +82,16 @@ fn check_recording(input: &Input) {
 /// Every shorter window, and every byte of the packet spoilt, with sums that are wrong then and with sums put right.
 fn check_spoilt(call: Call, packet: &[u8]) {
     for end in 0..packet.len() + 2 {
-        compare(call, packet, 0, end);
-        compare(call, packet, end, packet.len());
+        compare_bases(call, packet, 0, end);
+        compare_bases(call, packet, end, packet.len());
     }
     for at in 0..packet.len() {
         for bits in [0x01, 0x04, 0x40, 0x80, 0xFF] {
             let mut spoilt = packet.to_vec();
             spoilt[at] ^= bits;
-            compare(call, &spoilt, 0, packet.len());
+            compare(call, &spoilt, 0, packet.len(), FAR);
             put_sums_right(&mut spoilt);
-            compare(call, &spoilt, 0, packet.len());
+            compare(call, &spoilt, 0, packet.len(), FAR);
         }
     }
     if call == Call::WritePacket {
@@ -106,24 +110,32 @@ fn check_spoilt_twice(call: Call, packet: &[u8]) {
                 spoilt[first] ^= bits;
                 spoilt[second] ^= others;
                 put_sums_right(&mut spoilt);
-                compare(call, &spoilt, 0, packet.len());
+                compare(call, &spoilt, 0, packet.len(), FAR);
             }
         }
     }
 }
 
+/// The same window with bases on both sides of the greatest that it takes.
+fn compare_bases(call: Call, bytes: &[u8], start: usize, end: usize) {
+    let greatest = u64::MAX - end.saturating_sub(start) as u64;
+    for base in [0, FAR, greatest, greatest.saturating_add(1), u64::MAX] {
+        compare(call, bytes, start, end, base);
+    }
+}
+
 /// Compares what a row's call answers on a window; the writer is given what stands in the window, if that has a header.
-fn compare(call: Call, bytes: &[u8], start: usize, end: usize) {
+fn compare(call: Call, bytes: &[u8], start: usize, end: usize, base: u64) {
     match call {
         Call::ReadPacket => {
-            compare_packet(bytes, start, end);
+            compare_packet(bytes, start, end, base);
         }
         Call::ReadRecording => {
-            compare_packet(bytes, start, end);
-            compare_recording(bytes, start, end);
+            compare_packet(bytes, start, end, base);
+            compare_recording(bytes, start, end, base);
         }
-        Call::ListMessages => compare_lists(bytes, start, end),
-        Call::Message => compare_messages(bytes, start, end),
+        Call::ListMessages => compare_lists(bytes, start, end, base),
+        Call::Message => compare_messages(bytes, start, end, base),
         Call::WritePacket => {
             if let Some(packet) = bytes.get(start..end).filter(|packet| packet.len() >= 24) {
                 compare_outputs(&fields_in(packet), body_in(packet));
@@ -132,42 +144,51 @@ fn compare(call: Call, bytes: &[u8], start: usize, end: usize) {
     }
 }
 
-fn compare_packet(bytes: &[u8], start: usize, end: usize) -> raw::Packet {
+fn compare_packet(bytes: &[u8], start: usize, end: usize, base: u64) -> raw::Packet {
     let mut packet = raw::Packet::default();
-    library::read_packet(bytes, start, end, &mut packet);
-    let answer = as_raw::packet(same::read_packet(bytes, start, end));
-    assert_eq!(packet, answer, "window {} to {}", start, end);
+    library::read_packet(bytes, start, end, base, &mut packet);
+    let answer = as_raw::packet(same::read_packet(bytes, start, end, base));
+    assert_eq!(packet, answer, "window {start} to {end}, base {base}");
     note(&packet.refusal);
     packet
 }
 
-fn compare_recording(bytes: &[u8], start: usize, end: usize) {
+fn compare_recording(bytes: &[u8], start: usize, end: usize, base: u64) {
     let mut recording = raw::Recording::default();
-    library::read_recording(bytes, start, end, &mut recording);
-    let answer = as_raw::recording(same::read_recording(bytes, start, end));
-    assert_eq!(recording, answer, "window {} to {}", start, end);
+    library::read_recording(bytes, start, end, base, &mut recording);
+    let answer = as_raw::recording(same::read_recording(bytes, start, end, base));
+    assert_eq!(recording, answer, "window {start} to {end}, base {base}");
     note(&recording.refusal);
 }
 
 /// Lists with room for all messages, with more, and too short ones.
-fn compare_lists(bytes: &[u8], start: usize, end: usize) {
+fn compare_lists(bytes: &[u8], start: usize, end: usize, base: u64) {
     let count = library::count_messages(bytes, start, end);
-    compare_list(bytes, start, end, [count, count]);
-    compare_list(bytes, start, end, [count + 2, count + 3]);
+    compare_list(bytes, start, end, base, [count, count]);
+    compare_list(bytes, start, end, base, [count + 2, count + 3]);
     if count > 0 {
-        compare_list(bytes, start, end, [count - 1, count]);
-        compare_list(bytes, start, end, [count, count - 1]);
+        compare_list(bytes, start, end, base, [count - 1, count]);
+        compare_list(bytes, start, end, base, [count, count - 1]);
     }
 }
 
 /// The answer and the lists; entries past the count are untouched.
-fn compare_list(bytes: &[u8], start: usize, end: usize, rooms: [usize; 2]) {
+fn compare_list(bytes: &[u8], start: usize, end: usize, base: u64, rooms: [usize; 2]) {
     let lists = || rooms.map(|room| vec![u32::from(UNTOUCHED); room]);
     let ([mut starts, mut lengths], mut list) = (lists(), raw::List::default());
-    library::list_messages(bytes, start, end, &mut starts, &mut lengths, &mut list);
+    library::list_messages(
+        bytes,
+        start,
+        end,
+        base,
+        &mut starts,
+        &mut lengths,
+        &mut list,
+    );
     let [mut same_starts, mut same_lengths] = lists();
-    let count = same::list_messages(bytes, start, end, &mut same_starts, &mut same_lengths);
-    assert_eq!(list, as_raw::list(count), "window {} to {}", start, end);
+    let (first, second) = (&mut same_starts, &mut same_lengths);
+    let answer = as_raw::list(same::list_messages(bytes, start, end, base, first, second));
+    assert_eq!(list, answer, "window {start} to {end}, base {base}");
     note(&list.refusal);
     assert_eq!(starts, same_starts);
     assert_eq!(lengths, same_lengths);
@@ -180,15 +201,14 @@ fn compare_list(bytes: &[u8], start: usize, end: usize, rooms: [usize; 2]) {
 }
 
 /// Each message, and one past the last.
-fn compare_messages(bytes: &[u8], start: usize, end: usize) {
+fn compare_messages(bytes: &[u8], start: usize, end: usize, base: u64) {
     for number in 0..library::count_messages(bytes, start, end) + 1 {
         let mut message = raw::Message::default();
-        library::message(bytes, start, end, number, &mut message);
-        let answer = as_raw::message(same::message(bytes, start, end, number));
+        library::message(bytes, start, end, base, number, &mut message);
+        let answer = as_raw::message(same::message(bytes, start, end, base, number));
         assert_eq!(
             message, answer,
-            "message {} of {} to {}",
-            number, start, end
+            "message {number} of {start} to {end}, base {base}"
         );
         note(&message.refusal);
     }

@@ -1,20 +1,27 @@
 //! The library's calls by their C interface, on slices.
 use ch11::raw;
 
-pub fn read_packet(bytes: &[u8], start: usize, end: usize, packet: &mut raw::Packet) {
+pub fn read_packet(bytes: &[u8], start: usize, end: usize, base: u64, packet: &mut raw::Packet) {
     // SAFETY: the pointers are good for their lengths and don't overlap.
-    unsafe { raw::ch11_read_packet(bytes.as_ptr(), bytes.len(), start, end, packet) };
+    unsafe { raw::ch11_read_packet(bytes.as_ptr(), bytes.len(), start, end, base, packet) };
 }
 
-pub fn read_recording(bytes: &[u8], start: usize, end: usize, recording: &mut raw::Recording) {
+pub fn read_recording(
+    bytes: &[u8],
+    start: usize,
+    end: usize,
+    base: u64,
+    recording: &mut raw::Recording,
+) {
     // SAFETY: the pointers are good for their lengths and don't overlap.
-    unsafe { raw::ch11_read_recording(bytes.as_ptr(), bytes.len(), start, end, recording) };
+    unsafe { raw::ch11_read_recording(bytes.as_ptr(), bytes.len(), start, end, base, recording) };
 }
 
 pub fn list_messages(
     bytes: &[u8],
     start: usize,
     end: usize,
+    base: u64,
     starts: &mut [u32],
     lengths: &mut [u32],
     list: &mut raw::List,
@@ -26,6 +33,7 @@ pub fn list_messages(
             bytes.len(),
             start,
             end,
+            base,
             starts.as_mut_ptr(),
             starts.len(),
             lengths.as_mut_ptr(),
@@ -35,9 +43,26 @@ pub fn list_messages(
     };
 }
 
-pub fn message(bytes: &[u8], start: usize, end: usize, number: usize, message: &mut raw::Message) {
+pub fn message(
+    bytes: &[u8],
+    start: usize,
+    end: usize,
+    base: u64,
+    number: usize,
+    message: &mut raw::Message,
+) {
     // SAFETY: the pointers are good for their lengths and don't overlap.
-    unsafe { raw::ch11_message(bytes.as_ptr(), bytes.len(), start, end, number, message) };
+    unsafe {
+        raw::ch11_message(
+            bytes.as_ptr(),
+            bytes.len(),
+            start,
+            end,
+            base,
+            number,
+            message,
+        )
+    };
 }
 
 pub fn write_packet(fields: &raw::Fields, body: &[u8], out: &mut [u8], written: &mut raw::Written) {
@@ -57,6 +82,6 @@ pub fn write_packet(fields: &raw::Fields, body: &[u8], out: &mut [u8], written: 
 /// The number of messages in the packet at the start of a window; 0 if it is refused.
 pub fn count_messages(bytes: &[u8], start: usize, end: usize) -> usize {
     let mut list = raw::List::default();
-    list_messages(bytes, start, end, &mut [], &mut [], &mut list);
+    list_messages(bytes, start, end, 0, &mut [], &mut [], &mut list);
     list.refusal.room as usize
 }

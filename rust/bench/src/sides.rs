@@ -42,7 +42,7 @@ impl<'a> Lent<'a> {
         let bytes = input.bytes();
         let count = library::count_messages(bytes, 0, bytes.len());
         let mut packet = raw::Packet::default();
-        library::read_packet(bytes, 0, bytes.len(), &mut packet);
+        library::read_packet(bytes, 0, bytes.len(), 0, &mut packet);
         Lent {
             starts: vec![0; count],
             lengths: vec![0; count],
@@ -68,22 +68,23 @@ fn run_library(input: &Input, lent: &mut Lent, calls: usize) {
     let bytes = input.bytes();
     let end = bytes.len();
     match input.call {
-        Call::ReadPacket => repeat_into(calls, |start, packet| {
-            library::read_packet(bytes, start, end, packet)
+        Call::ReadPacket => repeat_into(calls, |at, packet| {
+            library::read_packet(bytes, at, end, at as u64, packet)
         }),
-        Call::ReadRecording => repeat_into(calls, |start, recording| {
-            library::read_recording(bytes, start, end, recording)
+        Call::ReadRecording => repeat_into(calls, |at, recording| {
+            library::read_recording(bytes, at, end, at as u64, recording)
         }),
-        Call::ListMessages => repeat_into(calls, |start, list| {
-            library::list_messages(bytes, start, end, &mut lent.starts, &mut lent.lengths, list)
+        Call::ListMessages => repeat_into(calls, |at, list| {
+            let (starts, lengths) = (&mut lent.starts, &mut lent.lengths);
+            library::list_messages(bytes, at, end, at as u64, starts, lengths, list)
         }),
-        Call::Message => repeat_into(calls, |start, message| {
-            library::message(bytes, start, end, lent.last + start, message)
+        Call::Message => repeat_into(calls, |at, message| {
+            library::message(bytes, at, end, at as u64, lent.last + at, message)
         }),
         Call::WritePacket => {
             let out = lent.out.bytes_mut();
-            repeat_into(calls, |start, written| {
-                library::write_packet(&lent.fields, &lent.body[start..], out, written)
+            repeat_into(calls, |at, written| {
+                library::write_packet(&lent.fields, &lent.body[at..], out, written)
             })
         }
     }
@@ -93,21 +94,25 @@ fn run_rust(input: &Input, lent: &mut Lent, calls: usize) {
     let bytes = input.bytes();
     let end = bytes.len();
     match input.call {
-        Call::ReadPacket => repeat(calls, |start| keep(&same::read_packet(bytes, start, end))),
-        Call::ReadRecording => repeat(calls, |start| {
-            keep(&same::read_recording(bytes, start, end))
+        Call::ReadPacket => repeat(calls, |at| {
+            keep(&same::read_packet(bytes, at, end, at as u64))
         }),
-        Call::ListMessages => repeat(calls, |start| {
+        Call::ReadRecording => repeat(calls, |at| {
+            keep(&same::read_recording(bytes, at, end, at as u64))
+        }),
+        Call::ListMessages => repeat(calls, |at| {
             let (starts, lengths) = (&mut lent.starts, &mut lent.lengths);
-            keep(&same::list_messages(bytes, start, end, starts, lengths))
+            keep(&same::list_messages(
+                bytes, at, end, at as u64, starts, lengths,
+            ))
         }),
-        Call::Message => repeat(calls, |start| {
-            keep(&same::message(bytes, start, end, lent.last + start))
+        Call::Message => repeat(calls, |at| {
+            keep(&same::message(bytes, at, end, at as u64, lent.last + at))
         }),
         Call::WritePacket => {
             let out = lent.out.bytes_mut();
-            repeat(calls, |start| {
-                keep(&same::write_packet(&lent.fields, &lent.body[start..], out))
+            repeat(calls, |at| {
+                keep(&same::write_packet(&lent.fields, &lent.body[at..], out))
             })
         }
     }
@@ -122,7 +127,7 @@ fn repeat_into<Answer: Default>(calls: usize, mut call: impl FnMut(usize, &mut A
     });
 }
 
-/// Calls again and again with a start of 0 that the compiler doesn't know.
+/// Calls again and again with a 0 that the compiler doesn't know, for start and base.
 fn repeat(calls: usize, mut call: impl FnMut(usize)) {
     let start = 0;
     for _ in 0..calls {

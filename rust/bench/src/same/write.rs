@@ -3,20 +3,23 @@ use super::body::{is_opened, walk_body};
 use super::frame::{data_sum, SYNC};
 use super::rules::{body_at, check_values, has_secondary, length_for, sum_width, TimeRule, Values};
 use super::units::{header_sum, put};
-use super::{fault, refuse, Fields, Refusal};
+use super::{refuse, Fields, Refusal};
 use ch11::raw;
 
 /// Writes the packet of these fields, given as the library takes them, and this body at the output's first byte and gives its length.
 /// 17, then 5 to 9, 12 and 15 by the reader's rules, then 16.
 #[inline(never)]
 pub fn write_packet(given: &raw::Fields, body: &[u8], out: &mut [u8]) -> Result<usize, Refusal> {
-    let refuse = |number| refuse(number, 0);
+    let refuse = |number| refuse(number, 0, 0);
     let fields = in_range(given).ok_or_else(|| refuse(17))?;
     let length = check_fields(&fields, body.len() as u64).map_err(refuse)?;
     if is_opened(fields.kind) {
         let walked = walk_body(body, fields.kind, fields.flags);
         if walked.reason != 0 {
-            return Err(fault(walked.reason, 0));
+            return Err(Refusal {
+                reason: walked.reason,
+                ..refuse(15)
+            });
         }
     }
     let packet = out.get_mut(..length).ok_or(Refusal {
