@@ -101,7 +101,8 @@ fn points(one: &Instruction) -> bool {
 }
 
 /// Whether the jump through a pointer at this place is by a table of the function:
-/// `lea TABLE(%rip),%B`, `movslq (%B,%I,4),%R`, `add %B,%R`, `jmp *%R`, one behind the other, and no other way in between them.
+/// `lea TABLE(%rip),%B`, `movslq (%B,%I,4),%R`, `add %B,%R`, `jmp *%R`, one behind the other, and no other way in between them. Where B is rbp or r13 a
+/// distance of 0 is written out.
 fn by_table(function: &Function, index: usize) -> bool {
     let (lea, load, add, jump) = match function.instructions.get(index.wrapping_sub(3)..=index) {
         Some([lea, load, add, jump]) => (lea, load, add, jump),
@@ -116,6 +117,7 @@ fn by_table(function: &Function, index: usize) -> bool {
         [entry, target] if names(load, "movslq") => (entry, target),
         _ => return false,
     };
+    let entry = entry.strip_prefix("0x0").unwrap_or(entry);
     entry.starts_with(&format!("({},", base))
         && entry.ends_with(",4)")
         && names(add, "add")

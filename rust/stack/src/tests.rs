@@ -134,18 +134,24 @@ fn a_jump_by_a_table_stays_in_its_function() {
     let with = |code: &str, first: u64, second: u64| {
         lines(&library(&[("a", code)], &entries(first, second)))
     };
-    assert_eq!(with(BY_TABLE, 5, 7), Ok(vec!["a 16 0 a 16".to_string()]));
+    let by_rbp = BY_TABLE
+        .replace("%rcx", "%rbp")
+        .replace("(%rbp", "0x0(%rbp");
+    for code in [BY_TABLE, &by_rbp] {
+        assert_eq!(with(code, 5, 7), Ok(vec!["a 16 0 a 16".to_string()]));
+    }
     let refused = |code: &str, first: u64, second: u64, wanted: &str| {
         let what = with(code, first, second).expect_err("it was not refused");
         assert!(what.contains(wanted), "{}", what);
     };
     refused(BY_TABLE, 5, 5, "no way leads there");
     refused(BY_TABLE, 5, 11, "where no instruction begins");
-    // Not by the table: another target, another sum, another table, a second jump, another way in.
+    // Not by the table: another target, another sum, another table, not its first byte, a second jump, another way in.
     for (text, other) in [
         ("*%rax", "*%rbx"),
         ("add    %rcx,%rax", "add    %rdx,%rax"),
         ("(%rcx,", "(%rdx,"),
+        ("(%rcx,", "0x4(%rcx,"),
         ("%rbx; ret; pop", "%rbx; jmp    *%rax; pop"),
         ("pop    %rbx; ret; pop", "jmp    4 <a+0x4>; ret; pop"),
     ] {
