@@ -40,6 +40,13 @@ static void fill_faulty(void)
     faulty[FAULTY_AT + 39] = 0x43;
 }
 
+/* Where they stand in their recordings: L, M, and the packets at FILLED, at the first byte of `faulty` and at FAULTY_AT. Then a base that is too
+ * high by one for a window of 40 bytes. */
+static const uint64_t L_BASE = UINT64_MAX - sizeof L;
+static const uint64_t M_BASE = 700000000000, FILLED_BASE = 700000000160;
+static const uint64_t FAULTY_BASE = 5000, FAULTY_AT_BASE = 5040;
+static const uint64_t TOO_FAR = UINT64_MAX - (RECORDING - FILLED) + 1;
+
 /* ---- comparing */
 
 static int differences = 0;
@@ -121,23 +128,26 @@ static struct ch11_packet l, m;
 static void read_packets(void)
 {
     struct ch11_packet p;
-    ANSWER(packet, packet_l, l, ch11_read_packet(L, 40, 0, 40, &l));
-    ANSWER(packet, packet_m, m, ch11_read_packet(recording, RECORDING, M_AT, FILLED, &m));
-    ANSWER(packet, packet_refused, p, ch11_read_packet(recording, RECORDING, FILLED, RECORDING, &p));
-    ANSWER(packet, packet_faulty, p, ch11_read_packet(faulty, FAULTY, FAULTY_AT, FAULTY, &p));
+    ANSWER(packet, packet_l, l, ch11_read_packet(L, 40, 0, 40, L_BASE, &l));
+    ANSWER(packet, packet_m, m, ch11_read_packet(recording, RECORDING, M_AT, FILLED, M_BASE, &m));
+    ANSWER(packet, packet_refused, p, ch11_read_packet(recording, RECORDING, FILLED, RECORDING, FILLED_BASE, &p));
+    ANSWER(packet, packet_faulty, p, ch11_read_packet(faulty, FAULTY, FAULTY_AT, FAULTY, FAULTY_AT_BASE, &p));
+    ANSWER(packet, packet_too_far, p, ch11_read_packet(recording, RECORDING, FILLED, RECORDING, TOO_FAR, &p));
 }
 
 /* Each call with lists of 3 entries, of which fewer of the starts may be lent; entries that aren't written stay 7 and 9. */
 static void list_messages(void)
 {
-    uint32_t starts[4][3] = {{7, 7, 7}, {7, 7, 7}, {7, 7, 7}, {7, 7, 7}}, lengths[4][3] = {{9, 9, 9}, {9, 9, 9}, {9, 9, 9}, {9, 9, 9}};
-    const uint32_t want_starts[4][3] = {{32, 7, 7}, {52, 68, 7}, {7, 7, 7}, {7, 7, 7}};
-    const uint32_t want_lengths[4][3] = {{3, 9, 9}, {3, 5, 9}, {9, 9, 9}, {9, 9, 9}};
+    uint32_t starts[5][3] = {{7, 7, 7}, {7, 7, 7}, {7, 7, 7}, {7, 7, 7}, {7, 7, 7}};
+    uint32_t lengths[5][3] = {{9, 9, 9}, {9, 9, 9}, {9, 9, 9}, {9, 9, 9}, {9, 9, 9}};
+    const uint32_t want_starts[5][3] = {{32, 7, 7}, {52, 68, 7}, {7, 7, 7}, {7, 7, 7}, {7, 7, 7}};
+    const uint32_t want_lengths[5][3] = {{3, 9, 9}, {3, 5, 9}, {9, 9, 9}, {9, 9, 9}, {9, 9, 9}};
     struct ch11_list a;
-    ANSWER(list, list_l, a, ch11_list_messages(L, 40, 0, 40, starts[0], 3, lengths[0], 3, &a));
-    ANSWER(list, list_m, a, ch11_list_messages(recording, RECORDING, M_AT, RECORDING, starts[1], 2, lengths[1], 3, &a));
-    ANSWER(list, list_refused, a, ch11_list_messages(recording, RECORDING, M_AT, RECORDING, starts[2], 1, lengths[2], 3, &a));
-    ANSWER(list, list_faulty, a, ch11_list_messages(faulty, FAULTY, FAULTY_AT, FAULTY, starts[3], 3, lengths[3], 3, &a));
+    ANSWER(list, list_l, a, ch11_list_messages(L, 40, 0, 40, L_BASE, starts[0], 3, lengths[0], 3, &a));
+    ANSWER(list, list_m, a, ch11_list_messages(recording, RECORDING, M_AT, RECORDING, M_BASE, starts[1], 2, lengths[1], 3, &a));
+    ANSWER(list, list_refused, a, ch11_list_messages(recording, RECORDING, M_AT, RECORDING, M_BASE, starts[2], 1, lengths[2], 3, &a));
+    ANSWER(list, list_faulty, a, ch11_list_messages(faulty, FAULTY, FAULTY_AT, FAULTY, FAULTY_AT_BASE, starts[3], 3, lengths[3], 3, &a));
+    ANSWER(list, list_too_far, a, ch11_list_messages(recording, RECORDING, FILLED, RECORDING, TOO_FAR, starts[4], 3, lengths[4], 3, &a));
     check_bytes("starts", starts, want_starts, sizeof starts);
     check_bytes("lengths", lengths, want_lengths, sizeof lengths);
 }
@@ -145,19 +155,21 @@ static void list_messages(void)
 static void single_messages(void)
 {
     struct ch11_message a;
-    ANSWER(message, message_l, a, ch11_message(L, 40, 0, 40, 0, &a));
-    ANSWER(message, message_m, a, ch11_message(recording, RECORDING, M_AT, RECORDING, 1, &a));
-    ANSWER(message, message_refused, a, ch11_message(recording, RECORDING, M_AT, RECORDING, 2, &a));
-    ANSWER(message, message_faulty, a, ch11_message(faulty, FAULTY, FAULTY_AT, FAULTY, 0, &a));
+    ANSWER(message, message_l, a, ch11_message(L, 40, 0, 40, L_BASE, 0, &a));
+    ANSWER(message, message_m, a, ch11_message(recording, RECORDING, M_AT, RECORDING, M_BASE, 1, &a));
+    ANSWER(message, message_refused, a, ch11_message(recording, RECORDING, M_AT, RECORDING, M_BASE, 2, &a));
+    ANSWER(message, message_faulty, a, ch11_message(faulty, FAULTY, FAULTY_AT, FAULTY, FAULTY_AT_BASE, 0, &a));
+    ANSWER(message, message_too_far, a, ch11_message(recording, RECORDING, FILLED, RECORDING, TOO_FAR, 0, &a));
 }
 
 static void read_recordings(void)
 {
     struct ch11_recording r;
-    ANSWER(recording, recording_l, r, ch11_read_recording(L, 40, 0, 40, &r));
-    ANSWER(recording, recording_filled, r, ch11_read_recording(recording, RECORDING, M_AT, FILLED, &r));
-    ANSWER(recording, recording_refused, r, ch11_read_recording(recording, RECORDING, M_AT, RECORDING, &r));
-    ANSWER(recording, recording_faulty, r, ch11_read_recording(faulty, FAULTY, 0, FAULTY, &r));
+    ANSWER(recording, recording_l, r, ch11_read_recording(L, 40, 0, 40, L_BASE, &r));
+    ANSWER(recording, recording_filled, r, ch11_read_recording(recording, RECORDING, M_AT, FILLED, M_BASE, &r));
+    ANSWER(recording, recording_refused, r, ch11_read_recording(recording, RECORDING, M_AT, RECORDING, M_BASE, &r));
+    ANSWER(recording, recording_faulty, r, ch11_read_recording(faulty, FAULTY, 0, FAULTY, FAULTY_BASE, &r));
+    ANSWER(recording, recording_too_far, r, ch11_read_recording(recording, RECORDING, FILLED, RECORDING, TOO_FAR, &r));
 }
 
 static void write_packets(void)

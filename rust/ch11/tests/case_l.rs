@@ -3,10 +3,17 @@
 
 mod cases;
 
-use cases::{faulty, recording, shown, FAULTY_AT, FILLED, L, M, M_AT};
+use cases::{faulty, recording, shown, FAULTY_AT, FAULTY_BASE, FILLED, L, L_BASE, M, M_AT, M_BASE};
 use ch11::raw;
 use std::fmt::Debug;
 use std::mem::{size_of, MaybeUninit};
+
+/// Where the packets at `FILLED` and at `FAULTY_AT` stand in their recordings.
+const FILLED_BASE: u64 = M_BASE + 160;
+const FAULTY_AT_BASE: u64 = FAULTY_BASE + 40;
+
+/// A base that is too high by one for a window of 40 bytes.
+const TOO_FAR: u64 = L_BASE + 1;
 
 /// Checks a struct's size and that its fields are those of the table, in its order: where the
 /// struct's words are 0, 1, 2 and so on, its fields are so too.
@@ -74,20 +81,23 @@ macro_rules! step {
 #[test]
 fn packets() {
     let buf = recording();
-    answer!("packet_l": ch11_read_packet(L.as_ptr(), 40, 0, 40));
-    answer!("packet_m": ch11_read_packet(buf.as_ptr(), 300, M_AT, FILLED));
-    answer!("packet_refused": ch11_read_packet(buf.as_ptr(), 300, FILLED, 300));
-    answer!("packet_faulty": ch11_read_packet(faulty().as_ptr(), 80, FAULTY_AT, 80));
+    answer!("packet_l": ch11_read_packet(L.as_ptr(), 40, 0, 40, L_BASE));
+    answer!("packet_m": ch11_read_packet(buf.as_ptr(), 300, M_AT, FILLED, M_BASE));
+    answer!("packet_refused": ch11_read_packet(buf.as_ptr(), 300, FILLED, 300, FILLED_BASE));
+    answer!("packet_too_far": ch11_read_packet(buf.as_ptr(), 300, FILLED, 300, TOO_FAR));
+    let buf = faulty();
+    answer!("packet_faulty": ch11_read_packet(buf.as_ptr(), 80, FAULTY_AT, 80, FAULTY_AT_BASE));
 }
 
 /// Lists into 3 entries, of which `held` of the starts are lent; those that aren't written stay 7
 /// and 9.
 macro_rules! list {
-    ($case:literal, $buf:expr, $at:expr, $held:expr) => {{
+    ($case:literal, $buf:expr, $at:expr, $base:expr, $held:expr) => {{
         let (mut starts, mut lengths) = ([7; 3], [9; 3]);
         let (first, second) = (starts.as_mut_ptr(), lengths.as_mut_ptr());
-        let (buf, len) = ($buf.as_ptr(), $buf.len());
-        answer!($case: ch11_list_messages(buf, len, $at, len, first, $held, second, 3));
+        let lent = &$buf;
+        let (buf, len) = (lent.as_ptr(), lent.len());
+        answer!($case: ch11_list_messages(buf, len, $at, len, $base, first, $held, second, 3));
         (starts, lengths)
     }};
 }
@@ -95,35 +105,45 @@ macro_rules! list {
 #[test]
 fn lists() {
     let buf = recording();
-    assert_eq!(list!("list_l", L, 0, 3), ([32, 7, 7], [3, 9, 9]));
-    assert_eq!(list!("list_m", buf, M_AT, 2), ([52, 68, 7], [3, 5, 9]));
-    assert_eq!(list!("list_refused", buf, M_AT, 1), ([7; 3], [9; 3]));
-    let buf = faulty();
-    assert_eq!(list!("list_faulty", buf, FAULTY_AT, 3), ([7; 3], [9; 3]));
+    let untouched = ([7; 3], [9; 3]);
+    let listed = list!("list_l", L, 0, L_BASE, 3);
+    assert_eq!(listed, ([32, 7, 7], [3, 9, 9]));
+    let listed = list!("list_m", buf, M_AT, M_BASE, 2);
+    assert_eq!(listed, ([52, 68, 7], [3, 5, 9]));
+    let listed = list!("list_refused", buf, M_AT, M_BASE, 1);
+    assert_eq!(listed, untouched);
+    let listed = list!("list_too_far", buf, FILLED, TOO_FAR, 3);
+    assert_eq!(listed, untouched);
+    let listed = list!("list_faulty", faulty(), FAULTY_AT, FAULTY_AT_BASE, 3);
+    assert_eq!(listed, untouched);
 }
 
 #[test]
 fn single_messages() {
     let buf = recording();
-    answer!("message_l": ch11_message(L.as_ptr(), 40, 0, 40, 0));
-    answer!("message_m": ch11_message(buf.as_ptr(), 300, M_AT, 300, 1));
-    answer!("message_refused": ch11_message(buf.as_ptr(), 300, M_AT, 300, 2));
-    answer!("message_faulty": ch11_message(faulty().as_ptr(), 80, FAULTY_AT, 80, 0));
+    answer!("message_l": ch11_message(L.as_ptr(), 40, 0, 40, L_BASE, 0));
+    answer!("message_m": ch11_message(buf.as_ptr(), 300, M_AT, 300, M_BASE, 1));
+    answer!("message_refused": ch11_message(buf.as_ptr(), 300, M_AT, 300, M_BASE, 2));
+    answer!("message_too_far": ch11_message(buf.as_ptr(), 300, FILLED, 300, TOO_FAR, 0));
+    let buf = faulty();
+    answer!("message_faulty": ch11_message(buf.as_ptr(), 80, FAULTY_AT, 80, FAULTY_AT_BASE, 0));
 }
 
 #[test]
 fn recordings() {
     let buf = recording();
-    answer!("recording_l": ch11_read_recording(L.as_ptr(), 40, 0, 40));
-    answer!("recording_filled": ch11_read_recording(buf.as_ptr(), 300, M_AT, FILLED));
-    answer!("recording_refused": ch11_read_recording(buf.as_ptr(), 300, M_AT, 300));
-    answer!("recording_faulty": ch11_read_recording(faulty().as_ptr(), 80, 0, 80));
+    answer!("recording_l": ch11_read_recording(L.as_ptr(), 40, 0, 40, L_BASE));
+    answer!("recording_filled": ch11_read_recording(buf.as_ptr(), 300, M_AT, FILLED, M_BASE));
+    answer!("recording_refused": ch11_read_recording(buf.as_ptr(), 300, M_AT, 300, M_BASE));
+    answer!("recording_too_far": ch11_read_recording(buf.as_ptr(), 300, FILLED, 300, TOO_FAR));
+    answer!("recording_faulty": ch11_read_recording(faulty().as_ptr(), 80, 0, 80, FAULTY_BASE));
 }
 
 #[test]
 fn written_packets() {
-    let l = answer!("packet_l": ch11_read_packet(L.as_ptr(), 40, 0, 40)).fields;
-    let m = answer!("packet_m": ch11_read_packet(recording().as_ptr(), 300, M_AT, FILLED)).fields;
+    let buf = recording();
+    let l = answer!("packet_l": ch11_read_packet(L.as_ptr(), 40, 0, 40, L_BASE)).fields;
+    let m = answer!("packet_m": ch11_read_packet(buf.as_ptr(), 300, M_AT, FILLED, M_BASE)).fields;
     let (of_l, of_m) = (L[24..36].as_ptr(), M[36..74].as_ptr());
     let other = &faulty()[FAULTY_AT + 24..FAULTY_AT + 36];
     let mut out = [0xEE; 90];

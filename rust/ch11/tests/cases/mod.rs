@@ -54,6 +54,12 @@ pub fn faulty() -> Vec<u8> {
     buf
 }
 
+/// Where L, M in `recording()` and the first byte of `faulty()` stand in their recordings: L as far
+/// on as can be.
+pub const L_BASE: u64 = u64::MAX - 40;
+pub const M_BASE: u64 = 700_000_000_000;
+pub const FAULTY_BASE: u64 = 5000;
+
 /// What is expected of the structs, field by field; the table itself says how it is read.
 const TABLE: &str = include_str!("../../../../tests/fields.h");
 
