@@ -131,18 +131,18 @@ enum { MOST = 4096, ROOM = 64 };
 static const struct lent nothing = {NULL, 0};
 static uint32_t starts[ROOM], lengths[ROOM];
 
-/* Every reader on a window; the packet at its start, if there is one, is left in `packet`. */
-static uint64_t read_all(struct lent buf, size_t start, size_t end, struct ch11_packet *packet)
+/* Every reader on a window, with its base; the packet at its start, if there is one, is left in `packet`. */
+static uint64_t read_all(struct lent buf, size_t start, size_t end, uint64_t base, struct ch11_packet *packet)
 {
     static struct ch11_list list;
     static struct ch11_message message;
     static struct ch11_recording recording;
     for (uint64_t number = 0; number < 3; number++)
-        run(&calls[MESSAGE], WORDS(AT(buf.bytes), buf.length, start, end, number, AT(&message)), buf, nothing);
+        run(&calls[MESSAGE], WORDS(AT(buf.bytes), buf.length, start, end, base, number, AT(&message)), buf, nothing);
     for (size_t room = 0; room <= ROOM; room += ROOM)
-        run(&calls[LIST], WORDS(AT(buf.bytes), buf.length, start, end, AT(starts), room, AT(lengths), room, AT(&list)), buf, nothing);
-    run(&calls[RECORDING], WORDS(AT(buf.bytes), buf.length, start, end, AT(&recording)), buf, nothing);
-    return run(&calls[READ], WORDS(AT(buf.bytes), buf.length, start, end, AT(packet)), buf, nothing);
+        run(&calls[LIST], WORDS(AT(buf.bytes), buf.length, start, end, base, AT(starts), room, AT(lengths), room, AT(&list)), buf, nothing);
+    run(&calls[RECORDING], WORDS(AT(buf.bytes), buf.length, start, end, base, AT(&recording)), buf, nothing);
+    return run(&calls[READ], WORDS(AT(buf.bytes), buf.length, start, end, base, AT(packet)), buf, nothing);
 }
 
 /* Writes an accepted packet again, into enough room and into too little. */
@@ -156,19 +156,21 @@ static void write_again(struct lent buf, const struct ch11_packet *packet)
         run(&calls[WRITE], WORDS(AT(&packet->fields), AT(body.bytes), body.length, AT(out), packet->length - less, AT(&written)), body, output);
 }
 
-/* Every start, with the window to the end; and at each packet every byte of it altered, and every end. */
+/* Every start, with the window to the end; and at each packet every byte of it altered, every end, and a base that is too high. */
 static void read_recording(uint8_t *bytes, size_t length)
 {
+    const uint64_t far = 700000000000;
     struct lent buf = {bytes, length};
     static struct ch11_packet packet, other;
     for (size_t start = 0; start <= length; start++) {
-        if (read_all(buf, start, length, &packet) != CH11_NONE)
+        if (read_all(buf, start, length, far + start, &packet) != CH11_NONE)
             continue;
         write_again(buf, &packet);
+        read_all(buf, start, length, UINT64_MAX, &other);
         for (size_t at = start; at < start + packet.length; at++) {
-            read_all(buf, start, at, &other);
+            read_all(buf, start, at, far + start, &other);
             bytes[at] ^= 0x41;
-            read_all(buf, start, length, &other);
+            read_all(buf, start, length, far + start, &other);
             bytes[at] ^= 0x41;
         }
     }
