@@ -2,30 +2,65 @@
 
 mod cases;
 
-use cases::{faulty, recording, shown, FAULTY_AT, FILLED, L, M, M_AT};
-use ch11::{Draft, Fields, Number, Reason, Recording, Refusal, TimeRule, MESSAGE, UART};
+use cases::{faulty, recording, shown, FAULTY_AT, FAULTY_BASE, FILLED, L, L_BASE, M, M_AT, M_BASE};
+use ch11::{Draft, Fields, Number, Packet, Reason, Recording, Refusal, TimeRule, MESSAGE, UART};
+use std::fmt::Debug;
 
-fn refusal(number: Number, place: usize, room: usize) -> Refusal {
+/// A refusal at these places in the buffer and in the recording; from the writer and the builder
+/// both are 0.
+fn refusal(number: Number, place: usize, recording_place: u64) -> Refusal {
     Refusal {
         number,
         place,
-        room,
+        room: 0,
         reason: None,
+        recording_place,
+    }
+}
+
+/// There is no room for so many.
+fn no_room(place: usize, recording_place: u64, room: usize) -> Refusal {
+    Refusal {
+        room,
+        ..refusal(Number::Room, place, recording_place)
     }
 }
 
 /// An opened body breaks its layout there, for this reason.
-fn fault(place: usize, reason: Reason) -> Refusal {
+fn fault(place: usize, recording_place: u64, reason: Reason) -> Refusal {
     Refusal {
         reason: Some(reason),
-        ..refusal(Number::Layout, place, 0)
+        ..refusal(Number::Layout, place, recording_place)
     }
+}
+
+/// Every call on this window is refused so, as the packet at its start is.
+#[track_caller]
+fn all_refuse(buf: &[u8], start: usize, end: usize, base: u64, refused: Refusal) {
+    assert_eq!(ch11::read_packet(buf, start, end, base), Err(refused));
+    let items: Vec<_> = ch11::packets(buf, start, end, base).collect();
+    assert_eq!(items, [Err(refused)]);
+    let count = ch11::message_count(buf, start, end, base);
+    assert_eq!(count, Err(refused));
+    let messages = ch11::messages(buf, start, end, base);
+    assert_eq!(messages.err(), Some(refused));
+    let (mut starts, mut lengths) = ([7; 3], [9; 3]);
+    let count = ch11::list_messages(buf, start, end, base, &mut starts, &mut lengths);
+    assert_eq!((count, starts, lengths), (Err(refused), [7; 3], [9; 3]));
+    assert_eq!(ch11::message(buf, start, end, base, 0), Err(refused));
+    let want = Recording {
+        accepted: 0,
+        reached: start,
+        recording_reached: base,
+        refusal: Some(refused),
+    };
+    assert_eq!(ch11::read_recording(buf, start, end, base), want);
 }
 
 #[test]
 fn every_field_of_a_packet() {
     let buf = recording();
-    let packet = ch11::read_packet(&buf, M_AT, FILLED).unwrap();
+    let packet = ch11::read_packet(&buf, M_AT, FILLED, M_BASE).unwrap();
     let as_told = |case| shown(case, &mut |word| word);
     let refusal = format!("refusal: {}, ", as_told("none"));
     let want = as_told("packet_m").replace(&refusal, "");
@@ -49,21 +84,17 @@ fn window_outside_the_buffer() {
         (0, usize::MAX),
     ];
     for (start, end) in outside {
-        let refused = refusal(Number::State, start, 0);
-        assert_eq!(ch11::read_packet(&L, start, end), Err(refused));
-        let items: Vec<_> = ch11::packets(&L, start, end).collect();
-        assert_eq!(items, [Err(refused)]);
-        assert_eq!(ch11::message_count(&L, start, end), Err(refused));
-        assert_eq!(ch11::messages(&L, start, end).err(), Some(refused));
-        assert_eq!(ch11::message(&L, start, end, 0), Err(refused));
-        assert_eq!(ch11::read_recording(&L, start, end).refusal, Some(refused));
+        for base in [0, M_BASE, u64::MAX] {
+            let refused = refusal(Number::State, start, base);
+            all_refuse(&L, start, end, base, refused);
+        }
     }
 }
 
 #[test]
 fn packets_end_at_the_exact_end() {
     let buf = recording();
-    let mut packets = ch11::packets(&buf, M_AT, FILLED);
+    let mut packets = ch11::packets(&buf, M_AT, FILLED, M_BASE);
     let starts: Vec<_> = packets
         .by_ref()
         .map(|packet| packet.unwrap().header.at)
@@ -72,37 +103,40 @@ fn packets_end_at_the_exact_end() {
     assert!(packets.next().is_none());
 
     for at in [0, 40] {
-        assert!(ch11::packets(&L, at, at).next().is_none());
+        assert!(ch11::packets(&L, at, at, M_BASE).next().is_none());
     }
-    assert!(ch11::packets(&[], 0, 0).next().is_none());
+    assert!(ch11::packets(&[], 0, 0, M_BASE).next().is_none());
 }
 
 #[test]
 fn packets_end_at_the_first_refusal() {
     let buf = recording();
-    let mut packets = ch11::packets(&buf, M_AT, buf.len());
+    let mut packets = ch11::packets(&buf, M_AT, buf.len(), M_BASE);
     assert_eq!(packets.by_ref().take(3).filter(Result::is_ok).count(), 3);
-    assert_eq!(packets.next(), Some(Err(refusal(Number::DataSum, 260, 0))));
+    let wrong = refusal(Number::DataSum, 260, M_BASE + 160);
+    assert_eq!(packets.next(), Some(Err(wrong)));
     assert!(packets.next().is_none() && packets.next().is_none());
 
-    let cut = ch11::packets(&buf, M_AT, FILLED - 1).last();
-    assert_eq!(cut, Some(Err(refusal(Number::Cut, 220, 0))));
+    let last = ch11::packets(&buf, M_AT, FILLED - 1, M_BASE).last();
+    let cut = refusal(Number::Cut, 220, M_BASE + 120);
+    assert_eq!(last, Some(Err(cut)));
 }
 
 #[test]
 fn recording_and_packets_agree() {
     let buf = recording();
     for end in M_AT..=buf.len() {
-        let items: Vec<_> = ch11::packets(&buf, M_AT, end).collect();
+        let items: Vec<_> = ch11::packets(&buf, M_AT, end, M_BASE).collect();
         let accepted = items.iter().flatten().count();
         let covered: usize = items.iter().flatten().map(|packet| packet.length).sum();
         let refusal = items.last().and_then(|item| item.err());
         let want = Recording {
             accepted,
             reached: M_AT + covered,
+            recording_reached: M_BASE + covered as u64,
             refusal,
         };
-        assert_eq!(ch11::read_recording(&buf, M_AT, end), want);
+        assert_eq!(ch11::read_recording(&buf, M_AT, end, M_BASE), want);
     }
 }
 
@@ -111,38 +145,37 @@ fn leftovers_are_not_seen() {
     let (mut buf, clean) = ([L, L].concat(), L);
     buf[40..].fill(0x25);
     assert_eq!(
-        ch11::read_packet(&buf, 0, 40),
-        ch11::read_packet(&clean, 0, 40)
+        ch11::read_packet(&buf, 0, 40, L_BASE),
+        ch11::read_packet(&clean, 0, 40, L_BASE)
     );
     assert_eq!(
-        ch11::read_recording(&buf, 0, 40),
-        ch11::read_recording(&clean, 0, 40)
+        ch11::read_recording(&buf, 0, 40, L_BASE),
+        ch11::read_recording(&clean, 0, 40, L_BASE)
     );
-    assert_eq!(ch11::packets(&buf, 0, 40).count(), 1);
-    let cut = refusal(Number::Cut, 0, 0);
-    assert_eq!(ch11::read_packet(&buf, 0, 39), Err(cut));
-    assert_eq!(ch11::messages(&buf, 0, 39).err(), Some(cut));
+    assert_eq!(ch11::packets(&buf, 0, 40, L_BASE).count(), 1);
+    all_refuse(&buf, 0, 39, L_BASE, refusal(Number::Cut, 0, L_BASE));
 }
 
 #[test]
 fn messages_of_a_packet() {
     let buf = recording();
-    let messages = ch11::messages(&buf, M_AT, FILLED).unwrap();
+    let messages = ch11::messages(&buf, M_AT, FILLED, M_BASE).unwrap();
     assert_eq!(messages.len(), 2);
     assert_eq!(messages.collect::<Vec<_>>(), [&b"abc"[..], b"vwxyz"]);
-    assert_eq!(ch11::message_count(&buf, M_AT, FILLED), Ok(2));
+    assert_eq!(ch11::message_count(&buf, M_AT, FILLED, M_BASE), Ok(2));
 
-    let last = ch11::message(&buf, M_AT, FILLED, 1).unwrap();
+    let last = ch11::message(&buf, M_AT, FILLED, M_BASE, 1).unwrap();
     assert_eq!((last.time, last.id), (0x11_0000_0021, 0x9876_0005));
     assert_eq!((last.start, last.bytes), (68, &b"vwxyz"[..]));
-    let none = ch11::message(&buf, M_AT, FILLED, 2);
-    assert_eq!(none, Err(refusal(Number::Range, 100, 0)));
+    let none = ch11::message(&buf, M_AT, FILLED, M_BASE, 2);
+    assert_eq!(none, Err(refusal(Number::Range, 100, M_BASE)));
 
     let (mut starts, mut lengths) = ([7; 3], [9; 2]);
-    let count = ch11::list_messages(&buf, M_AT, FILLED, &mut starts, &mut lengths);
+    let count = ch11::list_messages(&buf, M_AT, FILLED, M_BASE, &mut starts, &mut lengths);
     assert_eq!((count, starts, lengths), (Ok(2), [52, 68, 7], [3, 5]));
-    let count = ch11::list_messages(&buf, M_AT, FILLED, &mut starts, &mut lengths[..1]);
-    assert_eq!(count, Err(refusal(Number::Room, 100, 2)));
+    let short = &mut lengths[..1];
+    let count = ch11::list_messages(&buf, M_AT, FILLED, M_BASE, &mut starts, short);
+    assert_eq!(count, Err(no_room(100, M_BASE, 2)));
 }
 
 #[test]
@@ -155,12 +188,10 @@ fn type_that_is_not_opened() {
     };
     let mut out = [0; 28];
     assert_eq!(ch11::write_packet(&fields, b"body", &mut out), Ok(28));
-    assert_eq!(ch11::message_count(&out, 0, 28), Ok(0));
-    assert_eq!(ch11::messages(&out, 0, 28).unwrap().next(), None);
-    assert_eq!(
-        ch11::message(&out, 0, 28, 0),
-        Err(refusal(Number::Range, 0, 0))
-    );
+    assert_eq!(ch11::message_count(&out, 0, 28, M_BASE), Ok(0));
+    assert_eq!(ch11::messages(&out, 0, 28, M_BASE).unwrap().next(), None);
+    let none = ch11::message(&out, 0, 28, M_BASE, 0);
+    assert_eq!(none, Err(refusal(Number::Range, 0, M_BASE)));
 }
 
 #[test]
@@ -172,14 +203,15 @@ fn writer_refusals() {
         refused
     };
     let body = &M[36..74];
-    let fields = ch11::read_packet(&M, 0, 80).unwrap().fields;
+    let fields = ch11::read_packet(&M, 0, 80, M_BASE).unwrap().fields;
     let (mut late, mut new) = (fields, fields);
     (late.rtc, new.version) = (1 << 48, 10);
     assert_eq!(write(late, body, 80), refusal(Number::Range, 0, 0));
     assert_eq!(write(new, body, 80), refusal(Number::Version, 0, 0));
-    assert_eq!(write(fields, &body[..37], 80), fault(0, Reason::CutShort));
+    let cut = fault(0, 0, Reason::CutShort);
+    assert_eq!(write(fields, &body[..37], 80), cut);
     assert_eq!(write(fields, &[], 80), refusal(Number::Length, 0, 0));
-    assert_eq!(write(fields, body, 0), refusal(Number::Room, 0, 80));
+    assert_eq!(write(fields, body, 0), no_room(0, 0, 80));
 }
 
 #[test]
@@ -192,7 +224,7 @@ fn body_built_in_a_growing_buffer() {
     let denied = draft
         .add(&mut buf, 0x11_0000_0021, 0x9876, b"vwxyz")
         .unwrap_err();
-    assert_eq!(denied.refusal, refusal(Number::Room, 0, 38));
+    assert_eq!(denied.refusal, no_room(0, 0, 38));
     assert_eq!((denied.draft.used(), denied.draft.blocks()), (20, 1));
 
     buf.resize(denied.refusal.room, 0);
@@ -219,7 +251,7 @@ fn refused_steps_hand_back_the_state() {
     let denied = draft.close(&mut buf).unwrap_err();
     assert_eq!(
         (denied.refusal, denied.draft.used()),
-        (fault(0, Reason::Missing), 4)
+        (fault(0, 0, Reason::Missing), 4)
     );
     let denied = denied.draft.add(&mut buf, 1, 0, b"ABC").unwrap_err();
     assert_eq!(
@@ -241,7 +273,7 @@ fn time_rules() {
             .map_err(|denied| denied.refusal)
             .err()
     };
-    let layout = Some(fault(0, Reason::Time));
+    let layout = Some(fault(0, 0, Reason::Time));
     assert_eq!(
         (
             add(TimeRule::Counter, (1 << 48) - 1),
@@ -268,13 +300,148 @@ fn time_rules() {
 #[test]
 fn reasons_passed_on() {
     let buf = faulty();
-    let told = fault(68, Reason::Pad);
-    assert_eq!(ch11::read_packet(&buf, FAULTY_AT, 80), Err(told));
-    assert_eq!(ch11::packets(&buf, 0, 80).nth(1), Some(Err(told)));
-    assert_eq!(ch11::message_count(&buf, FAULTY_AT, 80), Err(told));
-    assert_eq!(ch11::messages(&buf, FAULTY_AT, 80).err(), Some(told));
-    assert_eq!(ch11::message(&buf, FAULTY_AT, 80, 0), Err(told));
-    assert_eq!(ch11::read_recording(&buf, 0, 80).refusal, Some(told));
+    let told = fault(68, FAULTY_BASE + 68, Reason::Pad);
+    all_refuse(&buf, FAULTY_AT, 80, FAULTY_BASE + 40, told);
+    let mut packets = ch11::packets(&buf, 0, 80, FAULTY_BASE);
+    assert_eq!(packets.nth(1), Some(Err(told)));
+    let read = ch11::read_recording(&buf, 0, 80, FAULTY_BASE);
+    assert_eq!(read.refusal, Some(told));
+}
+
+/// Where the packets of a window stand in the recording, and behind them where the refusal does.
+fn recording_places(buf: &[u8], start: usize, end: usize, base: u64) -> Vec<u64> {
+    let place = |item: Result<Packet, Refusal>| match item {
+        Ok(packet) => packet.recording_place,
+        Err(refusal) => refusal.recording_place,
+    };
+    ch11::packets(buf, start, end, base).map(place).collect()
+}
+
+#[test]
+fn packets_move_the_base_on() {
+    let buf = recording();
+    let places = recording_places(&buf, M_AT, 300, M_BASE);
+    assert_eq!(places, [0, 80, 120, 160].map(|passed| M_BASE + passed));
+    assert_eq!(recording_places(&buf, 180, FILLED, 9), [9, 49]);
+    let places = recording_places(&faulty(), 0, 80, FAULTY_BASE);
+    assert_eq!(places, [5000, 5068]);
+    // The last packet ends at the last place that there is.
+    let places = recording_places(&buf, M_AT, FILLED, u64::MAX - 160);
+    assert_eq!(places, [160, 80, 40].map(|left| u64::MAX - left));
+}
+
+/// A recording of which each buffer holds a piece, the second from where the first was left.
+/// Wherever the first ends, the two are read as the whole is.
+#[test]
+fn reading_on_in_another_buffer() {
+    let whole = [&recording()[M_AT..FILLED], &faulty()[FAULTY_AT..]].concat();
+    let want = ch11::read_recording(&whole, 0, 200, M_BASE);
+    let places = recording_places(&whole, 0, 200, M_BASE);
+    // The block at fault stands 28 bytes into its packet.
+    let passed = [0, 80, 120, 160 + 28];
+    assert_eq!(places, passed.map(|passed| M_BASE + passed));
+    for filled in 0..=200 {
+        let first = ch11::read_recording(&whole[..filled], 0, filled, M_BASE);
+        let base = first.recording_reached;
+        let ahead = [0xEE; 7];
+        let buf = [&ahead, &whole[(base - M_BASE) as usize..]].concat();
+        let second = ch11::read_recording(&buf, 7, buf.len(), base);
+        assert_eq!(first.accepted + second.accepted, want.accepted);
+        assert_eq!(second.recording_reached, want.recording_reached);
+        let place = |read: Recording| read.refusal.map(|refusal| refusal.recording_place);
+        assert_eq!(place(second), place(want));
+
+        let mut found = recording_places(&whole[..filled], 0, filled, M_BASE);
+        found.truncate(first.accepted);
+        found.extend(recording_places(&buf, 7, buf.len(), base));
+        assert_eq!(found, places);
+    }
+}
+
+/// What every call answers on a window, with its places in the recording less the base.
+fn answers(buf: &[u8], start: usize, end: usize, base: u64) -> impl PartialEq + Debug + '_ {
+    let told = |refusal: Refusal| Refusal {
+        recording_place: refusal.recording_place - base,
+        ..refusal
+    };
+    let read = |packet: Packet| Packet {
+        recording_place: packet.recording_place - base,
+        ..packet
+    };
+    let packet = ch11::read_packet(buf, start, end, base);
+    let packets = ch11::packets(buf, start, end, base);
+    let packets: Vec<_> = packets.map(|item| item.map(read).map_err(told)).collect();
+    let count = ch11::message_count(buf, start, end, base).map_err(told);
+    let messages = ch11::messages(buf, start, end, base).map(Vec::from_iter);
+    let (mut starts, mut lengths) = ([7; 2], [9; 1]);
+    let listed = ch11::list_messages(buf, start, end, base, &mut starts, &mut lengths);
+    let message = ch11::message(buf, start, end, base, 1).map_err(told);
+    let recording = ch11::read_recording(buf, start, end, base);
+    let recording = Recording {
+        recording_reached: recording.recording_reached - base,
+        refusal: recording.refusal.map(told),
+        ..recording
+    };
+    let lists = (listed.map_err(told), starts, lengths);
+    let one = (packet.map(read).map_err(told), count, message);
+    (one, packets, messages.map_err(told), lists, recording)
+}
+
+/// Every window of so many bytes from some starts on.
+fn windows(len: usize) -> impl Iterator<Item = (usize, usize)> {
+    let starts = [0, 40, M_AT, 180, FILLED, 300].into_iter();
+    starts.flat_map(move |start| (start..=len).map(move |end| (start, end)))
+}
+
+/// The highest base that a window may have.
+fn highest_base(start: usize, end: usize) -> u64 {
+    u64::MAX - (end - start) as u64
+}
+
+#[test]
+fn the_base_moves_recording_places_alone() {
+    for buf in [recording(), faulty(), Vec::new()] {
+        for (start, end) in windows(buf.len()) {
+            let at_0 = answers(&buf, start, end, 0);
+            let highest = highest_base(start, end);
+            for base in [1, (1 << 32) - 50, M_BASE, 1 << 63, highest] {
+                let moved = answers(&buf, start, end, base);
+                assert_eq!(moved, at_0, "window {start} to {end}, base {base}");
+            }
+        }
+    }
+}
+
+/// Every call says 1, and the base.
+#[test]
+fn base_above_the_highest() {
+    for buf in [recording(), faulty()] {
+        for (start, end) in windows(buf.len()).filter(|(start, end)| start < end) {
+            for base in [highest_base(start, end) + 1, u64::MAX] {
+                let refused = refusal(Number::State, start, base);
+                all_refuse(&buf, start, end, base, refused);
+            }
+        }
+    }
+}
+
+/// An empty window may stand behind the last byte that a recording can have.
+#[test]
+fn empty_window_at_the_highest_base() {
+    for (buf, at) in [(&L[..], 0), (&L, 40), (&[], 0)] {
+        let want = Recording {
+            accepted: 0,
+            reached: at,
+            recording_reached: u64::MAX,
+            refusal: None,
+        };
+        assert_eq!(ch11::read_recording(buf, at, at, u64::MAX), want);
+        assert!(ch11::packets(buf, at, at, u64::MAX).next().is_none());
+        let short = refusal(Number::Short, at, u64::MAX);
+        assert_eq!(ch11::read_packet(buf, at, at, u64::MAX), Err(short));
+        assert_eq!(ch11::message_count(buf, at, at, u64::MAX), Err(short));
+        assert_eq!(ch11::message(buf, at, at, u64::MAX, 0), Err(short));
+    }
 }
 
 /// The names and numbers in one of the header's lists, whose names begin so: behind that of 0, up to its end.
@@ -315,22 +482,43 @@ fn numbers_and_words() {
     assert_eq!(Number::from_value(99), Number::Other(99));
     assert_eq!(Reason::from_value(99), Reason::Other(99));
 
-    let words = |refusal: Refusal| refusal.to_string();
-    assert_eq!(
-        words(refusal(Number::DataSum, 40, 0)),
-        "13 at 40: wrong data sum"
-    );
-    assert_eq!(
-        words(refusal(Number::Room, 0, 80)),
-        "16 at 0: no room in a list or output (80 needed)"
-    );
-    assert_eq!(
-        words(fault(68, Reason::Missing)),
-        "15 at 68: body breaks its layout: body ends where a block must begin"
-    );
-
     let denied = Draft::new().close(&mut []).unwrap_err();
     assert_eq!(denied.to_string(), denied.refusal.to_string());
     let boxed: Box<dyn std::error::Error> = Box::new(denied);
     assert!(boxed.to_string().starts_with("1 at 0: "));
+}
+
+/// What a refusal shows of itself: the place in the recording where it is another number than the
+/// place in the buffer.
+#[test]
+fn words_of_a_refusal() {
+    for (refusal, words) in [
+        (refusal(Number::DataSum, 40, 40), "13 at 40: wrong data sum"),
+        (
+            refusal(Number::DataSum, 40, 0),
+            "13 at 40 (0 in the recording): wrong data sum",
+        ),
+        (
+            no_room(0, 0, 80),
+            "16 at 0: no room in a list or output (80 needed)",
+        ),
+        (
+            no_room(100, M_BASE, 2),
+            "16 at 100 (700000000000 in the recording): no room in a list or output (2 needed)",
+        ),
+        (
+            fault(68, 68, Reason::Missing),
+            "15 at 68: body breaks its layout: body ends where a block must begin",
+        ),
+        (
+            fault(68, 5068, Reason::Pad),
+            "15 at 68 (5068 in the recording): body breaks its layout: pad not zero",
+        ),
+        (
+            refusal(Number::Short, 0, u64::MAX),
+            "2 at 0 (18446744073709551615 in the recording): fewer than 24 bytes in the window",
+        ),
+    ] {
+        assert_eq!(refusal.to_string(), words);
+    }
 }
