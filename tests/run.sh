@@ -34,6 +34,7 @@ for source in tests/c/case_l.c examples/c/channels.c; do
 done
 says 'case L: all fields right' $x86_runner target/c/case_l
 says '0 1 7 9 9 12 20' $x86_runner target/c/channels samples/flight.ch11
+says 'refused with 13 at byte 156 of the recording' bash -c "! $x86_runner target/c/channels samples/altered.ch11 2>&1 >/dev/null"
 
 echo "Stack: each call, worked out and painted, held to docs/CALLS.md"
 quietly x86_host_cargo test --release --quiet --manifest-path rust/Cargo.toml -p stack

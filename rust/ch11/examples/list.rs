@@ -10,11 +10,11 @@ use std::process::ExitCode;
 fn list(recording: &[u8]) -> Result<(), Box<dyn Error>> {
     let mut out = io::stdout().lock();
     let end = recording.len();
-    for packet in ch11::packets(recording, 0, end) {
+    for packet in ch11::packets(recording, 0, end, 0) {
         let packet = packet?;
         let (channel, kind, length) = (packet.fields.channel, packet.fields.kind, packet.length);
         writeln!(out, "channel {channel} type {kind:#04x} length {length}")?;
-        for message in ch11::messages(recording, packet.header.at, end)? {
+        for message in ch11::messages(recording, packet.header.at, end, packet.recording_place)? {
             writeln!(out, "  {}", message.escape_ascii())?;
         }
     }
