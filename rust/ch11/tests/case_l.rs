@@ -39,6 +39,34 @@ fn layout_of_every_struct() {
     check_layout::<raw::Draft>("opened_l");
 }
 
+/// The names of a call's parameters, out of the list behind what declares it.
+fn parameters(text: &str, declared: &str, name: fn(&str) -> Option<&str>) -> Vec<String> {
+    let (_, rest) = text.split_once(declared).expect("it is declared");
+    let list = rest.split(')').next().unwrap_or_default().split(',');
+    let names = list.filter_map(|one| name(one.trim()));
+    // `type` is a word of Rust's own.
+    names.map(|name| name.replace("type", "kind")).collect()
+}
+
+/// The names stand in the same order in the header and here, where the wrapper's types hold a base
+/// apart from a place in the buffer.
+#[test]
+fn parameters_of_every_call() {
+    let header = include_str!("../../../include/ch11.h");
+    let raw = include_str!("../src/raw.rs");
+    let calls: Vec<_> = raw.split("pub fn ").skip(1).collect();
+    assert_eq!(calls.len(), 8);
+    for call in calls.into_iter().filter_map(|call| call.split('(').next()) {
+        let in_c = parameters(header, &format!("uint64_t {call}("), |one| {
+            one.rsplit([' ', '*']).next()
+        });
+        let here = parameters(raw, &format!("fn {call}("), |one| {
+            one.split_once(':').map(|(name, _)| name)
+        });
+        assert_eq!(in_c, here, "{call}");
+    }
+}
+
 /// A result that is set to no answer in all its fields, so that a field left out would show.
 fn spoilt<T: Copy>() -> T {
     let mut value = MaybeUninit::<T>::uninit();
