@@ -40,8 +40,8 @@ static void fill_faulty(void)
     faulty[FAULTY_AT + 39] = 0x43;
 }
 
-/* Where they stand in their recordings: L, M, and the packets at FILLED, at the first byte of `faulty` and at FAULTY_AT. Then a base that is too
- * high by one for a window of 40 bytes. */
+/* Where they stand in their recordings: L, M, and the packets at FILLED, at the first byte of `faulty` and at FAULTY_AT. Then a base that
+ * is too high by one for a window of 40 bytes. */
 static const uint64_t L_BASE = UINT64_MAX - sizeof L;
 static const uint64_t M_BASE = 700000000000, FILLED_BASE = 700000000160;
 static const uint64_t FAULTY_BASE = 5000, FAULTY_AT_BASE = 5040;
