@@ -9,15 +9,16 @@
  * or writes outside what it is lent, keeps nothing (so threads may call at the same time), allocates nothing and never fails otherwise
  * than by a refusal. It takes at most 1 KiB of stack, and the library needs no other, not even a C library.
  *
- * Two kinds of places. A `place` and a part's `at` are counted from the buffer's first byte: buf[place]. A `recording_place` is counted from
- * the recording's first byte, of which the buffer may hold any piece: with each window the caller gives a base, the place in the recording
- * where the window starts, and the recording place is that base plus the distance from the window's start. Whoever has no use for it
- * gives base 0 and has distances from the window's start. The base changes nothing else, save that base plus window length must not pass
- * 2^64 - 1 (refusal 1).
+ * Two kinds of places. A `place` and a part's `at` are counted from the buffer's first byte: buf[place]. A `recording_place` is counted
+ * from the recording's first byte, of which the buffer may hold any piece: with each window the caller gives a base, the place in the
+ * recording where the window starts, and the recording place is that base plus the distance from the window's start. Whoever has no use
+ * for it gives base 0 and has distances from the window's start. The base changes nothing else, save that base plus window length must
+ * not pass 2^64 - 1 (refusal 1).
  *
  * Every result is written into a struct of 64-bit numbers, which needs no filling beforehand, save the builder's. Each call returns the
- * refusal's number, 0 for none; the struct begins with the same number. On a refusal all other results are 0, but for its two places, the
- * room (of 16), the reason (of 15), the recording's three numbers and the builder's state; lists, buffers and outputs are then as they were.
+ * refusal's number, 0 for none; the struct begins with the same number. On a refusal all other results are 0, but for its two places,
+ * the room (of 16), the reason (of 15), the recording's three numbers and the builder's state; lists, buffers and outputs are then as
+ * they were.
  *
  * A length may be 0. Pointers must not be null, not even then; they must be aligned for their type and good for the length given, a
  * struct's for the struct. What a call may write to must not overlap anything else that the same call is lent.
@@ -94,11 +95,12 @@ enum {
 };
 
 struct ch11_refusal {
-    uint64_t number; /* as above; 0: none, and then the others are 0 as well */
-    uint64_t place;  /* where, counted from the buffer's first byte: the start of the packet; for 15 the channel word or the first byte
-                        of the block at fault, of the bytes left over, or where a missing block should begin. Writer and builder: 0 */
-    uint64_t room;   /* for 16: the messages, or the bytes of the whole packet or body, that need room; else 0 */
-    uint64_t reason; /* for 15: the rule broken, CH11_REASON_..; else 0 */
+    uint64_t number;          /* as above; 0: none, and then the others are 0 as well */
+    uint64_t place;           /* where, counted from the buffer's first byte: the start of the packet; for 15 the channel word or the first
+                                 byte of the block at fault, of the bytes left over, or where a missing block should begin. Writer and
+                                 builder: 0 */
+    uint64_t room;            /* for 16: the messages, or the bytes of the whole packet or body, that need room; else 0 */
+    uint64_t reason;          /* for 15: the rule broken, CH11_REASON_..; else 0 */
     uint64_t recording_place; /* the same byte as `place`, counted from the recording's first byte: the base given plus `place` minus
                                  the window's start; for 1 the base. Writer and builder: 0 */
 };
@@ -128,12 +130,13 @@ struct ch11_part {
 struct ch11_packet {
     struct ch11_refusal refusal;
     struct ch11_fields fields;
-    uint64_t length;      /* packet length P: the five parts together; a multiple of 4, at most 524,288, or 134,217,728 for type 0x01 */
-    uint64_t data_length; /* data length D: the body; at least 1 */
-    uint64_t header_sum;  /* as stored */
-    uint64_t data_sum;    /* as stored; 0 without one */
+    uint64_t length;          /* packet length P: the five parts together; a multiple of 4, at most 524,288, or 134,217,728 for type
+                                 0x01 */
+    uint64_t data_length;     /* data length D: the body; at least 1 */
+    uint64_t header_sum;      /* as stored */
+    uint64_t data_sum;        /* as stored; 0 without one */
     uint64_t recording_place; /* the packet's first byte, counted from the recording's first byte: the base given */
-    struct ch11_part header; /* `header.at` is the packet's first byte, counted from the buffer's */
+    struct ch11_part header;  /* `header.at` is the packet's first byte, counted from the buffer's */
     struct ch11_part secondary;
     struct ch11_part body;
     struct ch11_part filler;

@@ -51,7 +51,7 @@ impl TimeRule {
 /// let fields = Fields { channel: 1, version: 6, flags: 2, kind: UART, ..Fields::default() };
 /// let mut out = [0; 64];
 /// let length = ch11::write_packet(&fields, &body[..used], &mut out)?;
-/// assert_eq!(ch11::message(&out, 0, length, 0)?.bytes, b"ABC");
+/// assert_eq!(ch11::message(&out, 0, length, 0, 0)?.bytes, b"ABC");
 /// # Ok(())
 /// # }
 /// ```

@@ -7,7 +7,7 @@
 //! are.
 //!
 //! Every reader looks at a window: the bytes `buf[start..end]`. It takes the whole buffer and the
-//! two numbers, so that all places are counted from the buffer's first byte, and so that a buffer
+//! two numbers, so that places in the buffer are counted from its first byte, and so that a buffer
 //! may be filled in part: what stands behind `end` has no say. A window that isn't within the
 //! buffer is refused ([`Number::State`]); it is no panic.
 //!

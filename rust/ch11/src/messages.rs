@@ -21,8 +21,8 @@ pub fn list_messages(
 ) -> Result<usize, Refusal> {
     let mut list = raw::List::default();
     // SAFETY: the pointers and lengths are those of the three slices, which can't overlap as the two
-    // lists are borrowed alone; `list` is our own. Any start, end and base
-    // do.
+    // lists are borrowed alone; `list` is our own. Any start, end and
+    // base do.
     unsafe {
         raw::ch11_list_messages(
             buf.as_ptr(),

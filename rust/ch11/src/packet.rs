@@ -104,8 +104,8 @@ fn packet_of(packet: &raw::Packet) -> Packet {
 /// `base` is where the window starts in the recording.
 pub fn read_packet(buf: &[u8], start: usize, end: usize, base: u64) -> Result<Packet, Refusal> {
     let mut packet = raw::Packet::default();
-    // SAFETY: the pointer and length are those of `buf`; `packet` is our own. Any start, end and base
-    // do.
+    // SAFETY: the pointer and length are those of `buf`; `packet` is our own. Any start, end and
+    // base do.
     unsafe { raw::ch11_read_packet(buf.as_ptr(), buf.len(), start, end, base, &mut packet) };
     unless_refused(packet.refusal, packet_of(&packet))
 }

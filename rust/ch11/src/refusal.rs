@@ -107,7 +107,7 @@ macro_rules! numbered {
 
 numbered! {
     Number, "a number unknown to this version",
-    1 State "window or builder's state out of bounds",
+    1 State "window, its base or builder's state out of bounds",
     2 Short "fewer than 24 bytes in the window",
     3 Sync "wrong sync",
     4 HeaderSum "wrong header sum",
