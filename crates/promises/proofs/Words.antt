@@ -46,7 +46,7 @@ words =
       message-stamped = λ at e. let s : at + 8 + 4 ≡ at + 12 = omega arith in λ i. record { time = e .time; id = e .id; start = s i; length = length (e .bytes) };
       message-plain = λ at e. let s : at + 0 + 4 ≡ at + 4 = omega arith in λ i. record { time = e .time; id = e .id; start = s i; length = length (e .bytes) };
       refused-is = λ number place. refl;
-      needing-is = λ room number place. refl;
+      needing-is = λ room r. refl;
       none-is = refl;
       packet-told = λ p. refl;
       packet-not-told = λ r. refl;

@@ -78,10 +78,11 @@ pub record Words : Type 1 where
   -- a block at `at` as a message: time, ID word, start and length of its n bytes
   pub message-stamped : (at : ℕ) (e : Entry) → messageOn Stamped at e ≡ record { time = e .time; id = e .id; start = at + 12; length = length (e .bytes) }
   pub message-plain : (at : ℕ) (e : Entry) → messageOn Plain at e ≡ record { time = e .time; id = e .id; start = at + 4; length = length (e .bytes) }
-  -- ---- refusals: a number and a place; 16 also gives the room needed; none is 0. None of these has a reason, or a place in the recording
+  -- ---- refusals: a number and a place, without a reason and a place in the recording; 16 also gives the room needed, and keeps the rest; none is 0
 
   pub refused-is : (number place : ℕ) → refused number place ≡ record { number = number; place = place; room = 0; reason = 0; «recording_place» = 0 }
-  pub needing-is : (room number place : ℕ) → needing room (refused number place) ≡ record { number = number; place = place; room = room; reason = 0; «recording_place» = 0 }
+  pub needing-is : (room : ℕ) (r : Refusal)
+      → needing room r ≡ record { number = r .number; place = r .place; room = room; reason = r .reason; «recording_place» = r .«recording_place» }
   pub none-is : noRefusal ≡ record { number = 0; place = 0; room = 0; reason = 0; «recording_place» = 0 }
   -- ---- what is told of each answer: the value and no refusal, or the refusal as it is and zeros
 
