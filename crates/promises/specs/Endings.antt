@@ -50,17 +50,6 @@ abbrev pub Ends : {Value Telling : Type 0} → List ℕ → (Refusal → Value �
 Ends {Value} {Telling} numbers tell zeros t =
     ((v : Value) × (t ≡ tell noRefusal v)) ⊎ ((r : Refusal) × (t ≡ tell r zeros) × FromTable numbers r)
 
--- ---- places
-
--- a place in the buffer and a place in the recording (document 02 §9): a base that the caller gives, plus the distance from the window's start
-abbrev pub AsFar : ℕ → ℕ → ℕ → ℕ → Type 0
-AsFar start base place «recording_place» = (distance : ℕ) × (place ≡ start + distance) × («recording_place» ≡ base + distance)
-
--- a refusal of this number at these two places, without room and reason
-abbrev pub refusedThere : ℕ → ℕ → ℕ → Refusal
-refusedThere number place «recording_place» =
-    record { number = number; place = place; room = 0; reason = 0; «recording_place» = «recording_place» }
-
 -- a refusal and a value, as each call tells them
 abbrev pub readTold : Refusal → Packet → PacketTold
 readTold r p = record { refusal = r; packet = p }
@@ -73,6 +62,17 @@ givenTold r m = record { refusal = r; message = m }
 
 abbrev pub writtenTold : Refusal → ℕ → WriteTold
 writtenTold r n = record { refusal = r; length = n }
+
+-- ---- places
+
+-- a place in the buffer and a place in the recording (document 02 §9): a base that the caller gives, plus the distance from the window's start
+abbrev pub AsFar : ℕ → ℕ → ℕ → ℕ → Type 0
+AsFar start base place «recording_place» = (distance : ℕ) × (place ≡ start + distance) × («recording_place» ≡ base + distance)
+
+-- a refusal of this number at these two places, without room and reason
+abbrev pub refusedThere : ℕ → ℕ → ℕ → Refusal
+refusedThere number place «recording_place» =
+    record { number = number; place = place; room = 0; reason = 0; «recording_place» = «recording_place» }
 
 -- where the reader's refusals of a packet at the start of a window are placed, and their reasons; w: the window's bytes. 15 where the packet's body is
 -- at fault, for the rule broken there; all others at the packet's start, with reason 0; none gives room; the place in the recording is as far
