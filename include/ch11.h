@@ -9,11 +9,11 @@
  * or writes outside what it is lent, keeps nothing (so threads may call at the same time), allocates nothing and never fails otherwise
  * than by a refusal. It takes at most 1 KiB of stack, and the library needs no other, not even a C library.
  *
- * Two kinds of places. A `place` and a part's `at` are counted from the buffer's first byte: buf[place]. A `recording_place` is counted
- * from the recording's first byte, of which the buffer may hold any piece: with each window the caller gives a base, the place in the
- * recording where the window starts, and the recording place is that base plus the distance from the window's start. Whoever has no use
- * for it gives base 0 and has distances from the window's start. The base changes nothing else, save that base plus window length must
- * not pass 2^64 - 1 (refusal 1).
+ * Two kinds of places. A `place`, a part's `at` and `reached` are counted from the buffer's first byte: buf[place]. A `recording_place`
+ * and `recording_reached` are counted from the recording's first byte, of which the buffer may hold any piece: with each window the
+ * caller gives a base, the place in the recording where the window starts, and the recording place is that base plus the distance from
+ * the window's start. Whoever has no use for it gives base 0 and has distances from the window's start. The base changes nothing else,
+ * save that base plus window length must not pass 2^64 - 1 (refusal 1). (A message's start is counted from its packet's first byte.)
  *
  * Every result is written into a struct of 64-bit numbers, which needs no filling beforehand, save the builder's. Each call returns the
  * refusal's number, 0 for none; the struct begins with the same number. On a refusal all other results are 0, but for its two places,
@@ -56,9 +56,9 @@ extern "C" {
 
 enum {
     CH11_NONE = 0,
-    CH11_STATE = 1,          /* the window or a builder's used count is outside its buffer; or base plus window length passes 2^64 - 1; or
-                                that count is under 4, or the builder's state has a type or time rule that opening refuses, or over
-                                65,535 blocks in 0x30 */
+    CH11_STATE = 1,          /* the window is outside its buffer, or base plus window length passes 2^64 - 1; a builder's used count is
+                                outside its buffer or under 4, or the builder's state has a type or time rule that opening refuses, or
+                                over 65,535 blocks in 0x30 */
     CH11_SHORT = 2,          /* fewer than 24 bytes in the window */
     CH11_SYNC = 3,           /* wrong sync */
     CH11_HEADER_SUM = 4,     /* wrong header sum */
@@ -164,7 +164,7 @@ struct ch11_list {
 /* Lists the messages of the packet at the window's start: entry k of the two lists is the start, counted from the packet's first byte,
  * and the length of message k. Entries past the count are untouched. The reader's refusals, then 16 where there are more messages than
  * the shorter list holds. To count the messages beforehand, lend lists of length 0: the count is the room that 16 gives, or 0 without
- * a refusal. */
+ * a refusal. For a packet that was read, start is its header.at and base its recording_place. */
 uint64_t ch11_list_messages(const uint8_t *buf, size_t len, size_t start, size_t end, uint64_t base, uint32_t *starts,
                             size_t starts_len, uint32_t *lengths, size_t lengths_len, struct ch11_list *list);
 

@@ -1,4 +1,4 @@
-// The reader's tests, and what the readers say of a packet whose frame has passed them.
+// Lister and message behind the reader's tests; and of a packet whose frame has passed them 15, its record, its messages.
 ghost use mathlib.Core.Path.{_≡_};
 ghost use Prim.Native.Nat.{_+_, _^_, _<_, min};
 ghost use lib.ListN.{length};

@@ -80,7 +80,7 @@ pub enum PacketWrite {
 }
 
 // Whether a window is inside its buffer, and base plus window length below 2^64: the one test, for the calls on a packet and for a
-// recording.
+// recording. The length is formed only where start is not past end.
 pub fn inside(buf: &[u8], start: usize, end: usize, base: u64) -> bool
     ensures { λ r. ⌜ r ≡ inside (now (buf .entry)) start end base ⌝ }
 {

@@ -18,11 +18,12 @@ use Rattle.packet.specs.Messages.{messageCount, kthMessage, listAnswer, recorde
 use Rattle.packet.specs.declared.Packet.{Packet}
 use Rattle.packet.specs.declared.PacketPass.{PacketPass}
 use Rattle.packet.specs.declared.PacketPass.the-variants.{Passed, Barred}
+use Rattle.packet.specs.declared.PacketRead.{PacketRead}
 use Rattle.packet.specs.declared.PacketList.{PacketList}
 use Rattle.packet.specs.declared.PacketList.the-variants.{Listed, Unlisted}
 use Rattle.packet.specs.declared.PacketMessage.{PacketMessage}
 use Rattle.packet.specs.declared.PacketMessage.the-variants.{Given, Withheld}
-use Rattle.packet.proofs.Passes.{Inside, inside-made, window-ends, bytes-passed, pass-outside, pass-inside}
+use Rattle.packet.proofs.Passes.{Inside, inside-made, window-ends, bytes-passed, pass-outside, pass-inside, read-barred}
 use Rattle.packet.proofs.Told.{pass-numbered}
 use Rattle.packet.proofs.Window.{entries-told}
 use Rattle.packet.proofs.Own.{accepted-at}
@@ -109,6 +110,35 @@ unfolding allLines first
 read-within buf s e base within is =
     bytes-other (window buf s e)
     (rw (inside-made buf s e base (within-inside buf s e base within)) at (sym (number-is buf s e base)) ∙ is)
+
+module _ (buf : List ℕ) (s e base : ℕ) (within : Within buf s e base) where
+  abbrev Other : Refusal → Type 0
+  Other r = r .number ≢ 1
+
+  barred-within : (r : Refusal) → passWindow buf s e base ≡ Barred r → Other (recorded base s r)
+  barred-within r q is =
+      read-within buf s e base within
+      (sym (ap (λ (x : PacketRead). packetTold x .refusal .number) (read-barred buf s e base r _ q refl)) ∙ is)
+
+  list-within : (m n : ℕ) → Other (listTold (listPacket buf s e base m n) .refusal)
+  list-within = list-all buf s e base Other (λ (z : _≡_ {A = ℕ} 0 1). omega arith) barred-within (λ count (z : _≡_ {A = ℕ} 16 1). omega arith)
+
+  message-within : (k : ℕ) → Other (messageTold (messagePacket buf s e base k) .refusal)
+  message-within = message-all buf s e base Other (λ (z : _≡_ {A = ℕ} 0 1). omega arith) barred-within (λ (z : _≡_ {A = ℕ} 17 1). omega arith)
+
+  -- the window from the place reached on is in its buffer too
+  recording-within : Other (readRecording buf s e base .refusal)
+  recording-within is =
+      let h = hands-out buf s e base in
+      let r = readRecording buf s e base in
+      ⊎-elim
+      (λ f. omega (arith, is, ap (λ (x : Refusal). x .number) (f .2)))
+      (λ f.
+      let before = f .2 within in
+      read-within buf (r .reached) e (r .«recording_reached»)
+      (omega (arith, before), within .1, omega (arith, before, within .0, within .2, h .covers, h .recorded))
+      (ap (λ (x : Refusal). x .number) (f .0) ∙ is))
+      (h .ends)
 
 -- ---- other bases
 
@@ -337,5 +367,8 @@ places =
       list-outside = λ buf start end base m n other. list-outside buf start end base other m n;
       message-outside = λ buf start end base k other. message-outside buf start end base other k;
       read-within = read-within;
+      list-within = list-within;
+      message-within = message-within;
+      recording-within = recording-within;
       other-bases = other-bases;
     }

@@ -45,7 +45,8 @@ pub record InForm (rule time : ℕ) : Type 0 where
   -- the secondary time rule of a format
   pub absolute : (code : ℕ) → rule ≡ 2 + code → InFormat code time
 
--- an answer: its number, place 0, the room needed, its reason, no place in the recording, and the state that is handed back. Written out: no definition of a refusal is cited
+-- an answer: its number, place 0, the room needed, its reason, no place in the recording, and the state that is handed back. Written out: no
+-- definition of a refusal is cited
 abbrev pub says : ℕ → ℕ → ℕ → Draft → StepTold
 says number room reason d = record { refusal = record { number = number; place = 0; room = room; reason = reason; «recording_place» = 0 }; draft = d }
 

@@ -40,7 +40,8 @@ pub record Document01 : Type 0 where
   pub message-as-read : (buf : List ℕ) (start end base number : ℕ) → packetTold (readPacket buf start end base) .refusal .number ≢ 0
       → messageTold (messagePacket buf start end base number) ≡ givenTold (packetTold (readPacket buf start end base) .refusal) zeroMessage
   -- Recording: "Handed out means that the one-packet reader, at each of those places with the same end, gives that packet; the number is
-  -- exactly how many. The lengths of the accepted packets add up to the distance covered." One list of packets is so, and no other.
+  -- exactly how many. The lengths of the accepted packets add up to the distance covered." One list of packets is so, and no other;
+  -- with its base moved on, document 02 §9.
   pub recording-handed : (buf : List ℕ) (start end base : ℕ)
       → (ps : List Packet) × HandsOut buf start end base (readRecording buf start end base) ps × ((qs : List Packet) → HandsOut buf start end base (readRecording buf start end base) qs → qs ≡ ps)
   -- Builder: what each step answers, each refusal in its order

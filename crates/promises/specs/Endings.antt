@@ -75,7 +75,7 @@ refusedThere number place «recording_place» =
     record { number = number; place = place; room = 0; reason = 0; «recording_place» = «recording_place» }
 
 -- where the reader's refusals of a packet at the start of a window are placed, and their reasons; w: the window's bytes. 15 where the packet's body is
--- at fault, for the rule broken there; all others at the packet's start, with reason 0; none gives room; the place in the recording is as far
+-- at fault, for the rule broken there; all others at the packet's start, with reason 0; none gives room; the place in the recording is as far from the base
 pub record Placed (w : List ℕ) (start base : ℕ) (r : Refusal) : Type 0 where
   pub room : r .room ≡ 0
   pub outer : r .number ≢ 15 → (r .place ≡ start) × (r .reason ≡ 0)

@@ -1,4 +1,4 @@
--- The rules of document 01, one by one and in its words, that a packet at the start of a window keeps (demand 2). Numbers are those of its
+-- The rules of document 01, 1 with document 02 §9's cause, one by one and in their words, that a packet at the start of a window keeps (demand 2). Numbers are those of its
 -- table of refusals. No test of the reader's is cited: that the reader's tests say the same is proved in proofs/Keeping.antt.
 use mathlib.Core.Path.{_≡_}
 use mathlib.Core.List.{List, [], _∷_}

@@ -47,7 +47,7 @@ packetElsewhere p =
 abbrev pub Apart : ℕ → ℕ → ℕ → ℕ → Type 0
 Apart base base′ place place′ = place + base′ ≡ place′ + base
 
--- refusals; where there is none, neither has a place
+-- refusals; where there is none, they are the same
 pub record RefusalApart (base base′ : ℕ) (r r′ : Refusal) : Type 0 where
   pub alone : elsewhere r ≡ elsewhere r′
   pub apart : r .number ≢ 0 → Apart base base′ (r .«recording_place») (r′ .«recording_place»)
@@ -120,6 +120,11 @@ pub record Places : Type 0 where
       → messageTold (messagePacket buf start end base number) ≡ givenTold (refusedThere 1 start base) zeroMessage
   -- and nowhere else
   pub read-within : (buf : List ℕ) (start end base : ℕ) → Within buf start end base → packetTold (readPacket buf start end base) .refusal .number ≢ 1
+  pub list-within : (buf : List ℕ) (start end base : ℕ) → Within buf start end base → (len₁ len₂ : ℕ)
+      → listTold (listPacket buf start end base len₁ len₂) .refusal .number ≢ 1
+  pub message-within : (buf : List ℕ) (start end base : ℕ) → Within buf start end base → (number : ℕ)
+      → messageTold (messagePacket buf start end base number) .refusal .number ≢ 1
+  pub recording-within : (buf : List ℕ) (start end base : ℕ) → Within buf start end base → readRecording buf start end base .refusal .number ≢ 1
   -- "Demand 1's equal answers now also need equal bases" (Demand1.nothing-outside): with other bases, neither of them refused, answers about equal
   -- windows differ in the places in the recording alone, by the difference of the bases
   pub other-bases : (a b : List ℕ) (start end base base′ : ℕ) → Within a start end base → Within b start end base′

@@ -20,7 +20,7 @@ answered cs reached «recording_reached» refusal =
 pub record ReadsAs (buf : List ℕ) (start end base : ℕ) (cs : List Contents) (reached «recording_reached» : ℕ) (refusal : Refusal) : Type 0 where
   -- what the call says
   pub answer : readRecording buf start end base ≡ answered cs reached «recording_reached» refusal
-  -- the packets that the one-packet reader gives, at each of their places with the same end
+  -- the packets that the one-packet reader gives, at each of their places with the same end and the base moved on
   pub packets : List Packet
   pub handed : HandsOut buf start end base (answered cs reached «recording_reached» refusal) packets
   -- and they are as cs says

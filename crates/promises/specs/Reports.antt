@@ -17,7 +17,7 @@ use Rattle.promises.specs.Numbers.{bit7, width}
 use Rattle.promises.specs.Keeps as Of
 
 -- the packet told of is the one at the start of a window's bytes w, which stand at `at` in their buffer and at `base` in the recording: each field of
--- its header (document 01, "Primary header"), the secondary time, the data sum, and the place and length of each part
+-- its header (document 01, "Primary header"), the secondary time, the data sum, its place in the recording, and the place and length of each part
 pub record PacketThere (w : List ℕ) (at base : ℕ) (p : Packet) : Type 0 where
   pub channel : p .fields .channel ≡ field w 2 2
   pub long : p .length ≡ Of.P w

@@ -41,7 +41,7 @@ readFrom (suc turns) buf at end base =
     (stopped at base noRefusal)
     (onward (readPacket buf at end base) at base (λ p. readFrom turns buf (at + p .length) end (base + p .length)))
 
--- from the start; 1 where the window is outside its buffer, or its end past the last place of a recording
+-- from the start; 1 where the window is outside its buffer, or base plus its length passes 2^64 - 1
 unfoldable pub reading : List ℕ → ℕ → ℕ → ℕ → Reading
 reading buf start end base =
     pick (not (inside buf start end base))

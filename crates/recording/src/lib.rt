@@ -20,7 +20,7 @@ pub struct Recording {
 }
 
 // Reads the packets of a window from its start, each at the end of the one before; the first that is refused ends the reading.
-// A window outside its buffer, or one that goes past the last place of a recording: none, the start, and refusal 1 there. An empty
+// A window outside its buffer, or one whose end would pass 2^64 - 1 in the recording: none, the start, and refusal 1 there. An empty
 // window in its buffer: none, the start, no refusal.
 pub fn read_recording(buf: &[u8], start: usize, end: usize, base: u64) -> Recording
     ensures { λ r. ⌜ r ≡ readRecording (now (buf .entry)) start end base ⌝ }

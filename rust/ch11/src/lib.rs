@@ -13,7 +13,8 @@
 //!
 //! A buffer may hold any piece of a recording. Each reader is given a base too, the place in the
 //! recording where the window starts: every packet and refusal then has a `recording_place`, counted
-//! from the recording's first byte, beside its place in the buffer. Whoever has no use for it gives 0.
+//! from the recording's first byte, beside its place in the buffer. Whoever has no use for it gives 0,
+//! and has distances from the window's start there; with `start` as base both places are one number.
 //!
 //! ```
 //! fn main() -> Result<(), ch11::Refusal> {

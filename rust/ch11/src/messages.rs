@@ -1,6 +1,5 @@
 //! The messages of a packet. Each call reads the packet at the start of the window
 //! `buf[start..end]` whole, with all its tests; a packet whose type isn't opened has no messages.
-//! `base` is where the window starts in the recording; only a refusal's place there rests on it.
 
 use crate::raw;
 use crate::refusal::{unless_refused, Number, Refusal};
@@ -11,6 +10,9 @@ use std::vec::IntoIter;
 /// lists becomes the start of message k, counted from the packet's first byte, and its length. Gives
 /// the number of messages; entries past it are untouched, and all are at a refusal. With more
 /// messages than the shorter list holds ([`Number::Room`]) [`Refusal::room`] is their number.
+///
+/// `base` is where the window starts in the recording: of a packet that was read, its
+/// [`recording_place`](crate::Packet::recording_place). It shows in refusals alone.
 pub fn list_messages(
     buf: &[u8],
     start: usize,
@@ -21,8 +23,7 @@ pub fn list_messages(
 ) -> Result<usize, Refusal> {
     let mut list = raw::List::default();
     // SAFETY: the pointers and lengths are those of the three slices, which can't overlap as the two
-    // lists are borrowed alone; `list` is our own. Any start, end and
-    // base do.
+    // lists are borrowed alone; `list` is our own. Any start, end and base do.
     unsafe {
         raw::ch11_list_messages(
             buf.as_ptr(),
@@ -40,7 +41,8 @@ pub fn list_messages(
     unless_refused(list.refusal, list.count as usize)
 }
 
-/// The number of messages in the packet at the start of the window `buf[start..end]`.
+/// The number of messages in the packet at the start of the window `buf[start..end]`; for `base` see
+/// [`list_messages`].
 pub fn message_count(buf: &[u8], start: usize, end: usize, base: u64) -> Result<usize, Refusal> {
     match list_messages(buf, start, end, base, &mut [], &mut []) {
         Err(refusal) if refusal.number == Number::Room => Ok(refusal.room),
@@ -51,7 +53,8 @@ pub fn message_count(buf: &[u8], start: usize, end: usize, base: u64) -> Result<
 /// The bytes of each message in the packet at the start of the window `buf[start..end]`, in order.
 ///
 /// The packet is read twice, to count and to list, and 8 bytes are allocated for each message: the
-/// cost grows with the packet's length. For a message's time and ID word, see [`message`].
+/// cost grows with the packet's length. For a message's time and ID word, see [`message`]; for `base`
+/// [`list_messages`].
 pub fn messages(buf: &[u8], start: usize, end: usize, base: u64) -> Result<Messages<'_>, Refusal> {
     let count = message_count(buf, start, end, base)?;
     let (mut starts, mut lengths) = (vec![0; count], vec![0; count]);
@@ -108,7 +111,7 @@ pub struct Message<'a> {
 ///
 /// Each call reads the whole packet and walks to the message from the first one, so that fetching
 /// all of them this way costs as much as their number times the packet's length. Use [`messages`]
-/// where the bytes are enough.
+/// where the bytes are enough. For `base` see [`list_messages`].
 pub fn message(
     buf: &[u8],
     start: usize,

@@ -9,9 +9,9 @@ use std::fmt;
 #[derive(Clone, Copy, Debug, PartialEq, Eq, Hash)]
 #[non_exhaustive]
 pub enum Number {
-    /// 1: the window or a builder's used count is outside its buffer; or base plus window length
-    /// passes 2^64 - 1; or that count is under 4, or the builder's state has a type or time rule that
-    /// opening refuses, or too many blocks.
+    /// 1: the window is outside its buffer, or base plus window length passes 2^64 - 1; a builder's
+    /// used count is outside its buffer or under 4, or the builder's state has a type or time rule
+    /// that opening refuses, or too many blocks.
     State,
     /// 2: fewer than 24 bytes in the window.
     Short,
@@ -157,7 +157,7 @@ pub struct Refusal {
 }
 
 /// Which, where, what and why: `15 at 68: body breaks its layout: block cut short`. Where the place in
-/// the recording is another number: `15 at 68 (1068 in the recording): ..`.
+/// the recording, by the base that was given, is another number: `15 at 68 (5068 in the recording): ..`.
 impl fmt::Display for Refusal {
     fn fmt(&self, f: &mut fmt::Formatter<'_>) -> fmt::Result {
         let (number, place) = (self.number.value(), self.place);
