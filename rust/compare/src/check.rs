@@ -68,6 +68,16 @@ fn based(
     }
 }
 
+/// The place of a reader's refusal "is the start of the packet", which is here; for 15 it is behind the header.
+fn at_packet(tally: &mut Tally, input: &dyn Fn() -> String, here: u64, refusal: &Refusal) {
+    let is_there = match refusal.number {
+        0 => true,
+        15 => refusal.place >= here + 24,
+        _ => refusal.place == here,
+    };
+    tally.require("the start of the packet", input, &is_there, &true);
+}
+
 /// "For the writer and builder the place is 0", in the recording too: no base is given.
 fn without_base(tally: &mut Tally, input: &dyn Fn() -> String, refusal: &Refusal) {
     let places = [refusal.place, refusal.recording_place];
@@ -95,6 +105,7 @@ pub fn read(tally: &mut Tally, window: &Placed) -> (u64, Packet) {
     tally.compare(&READ, &input, &answer, &wanted);
     returned(tally, &READ, &input, answer.0, &answer.1.refusal);
     based(tally, &READ, &input, window, &answer.1.refusal);
+    at_packet(tally, &input, window.start as u64, &answer.1.refusal);
     zero_beside!(tally, &input, answer.1, Packet);
     if answer.0 == 0 {
         tally.accepted(answer.1.fields.kind, answer.1.fields.flags);
@@ -134,6 +145,7 @@ pub fn list(
     let (number, (list, first, second)) = answer;
     returned(tally, &LIST, &input, number, &list.refusal);
     based(tally, &LIST, &input, window, &list.refusal);
+    at_packet(tally, &input, window.start as u64, &list.refusal);
     zero_beside!(tally, &input, list, List);
     let kept = |list_of: &[u32]| {
         let told = MARGIN..MARGIN + list.count as usize;
@@ -156,6 +168,7 @@ pub fn message(tally: &mut Tally, window: &Placed, number: usize) -> (u64, Messa
     tally.compare(&ONE_MESSAGE, &input, &answer, &wanted);
     returned(tally, &ONE_MESSAGE, &input, answer.0, &answer.1.refusal);
     based(tally, &ONE_MESSAGE, &input, window, &answer.1.refusal);
+    at_packet(tally, &input, window.start as u64, &answer.1.refusal);
     zero_beside!(tally, &input, answer.1, Message);
     if let Some(there) = tally.rebased(&ONE_MESSAGE, window) {
         elsewhere::equal_messages(tally, window, &there, number);
@@ -171,6 +184,7 @@ pub fn recording(tally: &mut Tally, window: &Placed) -> (u64, Recording) {
     let (number, recording) = answer;
     returned(tally, &RECORDING, &input, number, &recording.refusal);
     based(tally, &RECORDING, &input, window, &recording.refusal);
+    at_packet(tally, &input, recording.reached, &recording.refusal);
     if number != 0 && recording.accepted > 0 {
         tally.later(window, number);
     }

@@ -16,7 +16,7 @@ pub fn all(tally: &mut Tally, random: &mut Random) {
     long_drafts(tally);
 }
 
-/// A recording of more packets than 16 bits count, whole and with its last byte missing.
+/// A recording of more packets than 16 bits count, whole and with its last byte missing, up to the last place; then past it.
 fn many_packets(tally: &mut Tally, random: &mut Random) {
     let packets = (0..70_000).flat_map(|_| packet_of_length(random, 28));
     let mut window = Placed::whole(packets.collect());
@@ -30,6 +30,8 @@ fn many_packets(tally: &mut Tally, random: &mut Random) {
         tally.require("70,000 packets", &String::new, &answer, &wanted);
         window.end -= 1;
     }
+    window.base = window.greatest_base() + 1;
+    check::recording(tally, &window);
 }
 
 /// Packets of many messages: lists that just hold them or just don't, and messages by number.
