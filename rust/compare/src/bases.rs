@@ -14,7 +14,7 @@ const LENGTHS: usize = 65;
 /// One call in so many is made again with another base.
 const REBASED: u64 = 7;
 
-/// "base plus window length would pass 2^64 - 1"
+/// What "base plus window length" may come to.
 const LAST: u128 = u64::MAX as u128;
 
 /// A window and its base by what they come to together.
@@ -96,9 +96,10 @@ impl Bases {
         if self.calls % REBASED != 0 || !window.is_taken() {
             return None;
         }
-        self.rebased += 1;
         let random = &mut Random::new(self.calls);
-        Some(window.clone().with_some_base(random))
+        let there = window.clone().with_some_base(random);
+        self.rebased += u64::from(there.base != window.base);
+        Some(there)
     }
 
     /// Prints what was met, and answers how much never was; these numbers a later packet can be refused with.
