@@ -3,3 +3,4 @@ pub mod Parts
 pub mod Writes
 pub mod Sums
 pub mod Choices
+pub mod Sames

@@ -1,7 +1,7 @@
 -- Bytes, little-endian numbers and sums of units: what every contract above is written in.
 use mathlib.Core.Path.{_≡_}
 use mathlib.Core.List.{List, [], _∷_, _++_}
-use mathlib.Core.Bool.{Bool, true, _&&_}
+use mathlib.Core.Bool.{Bool, true, false, _&&_}
 use mathlib.Core.Logic.{_≢_}
 use Prim.Native.Nat.{ℕ, zero, suc, _+_, _*_, _/_, _%_, _^_, _<_}
 use lib.Dec.{eqb}
@@ -26,6 +26,13 @@ splice bs at vs = take at bs ++ vs ++ drop (at + length vs) bs
 unfoldable pub zeros : List ℕ → Bool
 zeros [] = true
 zeros (b ∷ bs) = eqb b 0 && zeros bs
+
+-- whether two runs of bytes are equal
+unfoldable pub same : List ℕ → List ℕ → Bool
+same [] [] = true
+same [] (y ∷ ys) = false
+same (x ∷ xs) [] = false
+same (x ∷ xs) (y ∷ ys) = eqb x y && same xs ys
 
 -- ---- little-endian numbers
 

@@ -2,7 +2,7 @@
 ghost use mathlib.Core.Path.{_≡_};
 ghost use Prim.Native.Nat.{_+_, _*_, _<_, _≤_};
 ghost use lib.ListN.{length, replicate};
-ghost use Rattle.units.specs.Units.{field, bytesOf, splice, checksum, zeros};
+ghost use Rattle.units.specs.Units.{field, bytesOf, splice, checksum, zeros, same};
 
 // A byte as a wider number that is known to stay below 256.
 fn wide(x: u8) -> u16
@@ -129,6 +129,18 @@ pub fn all_zero(s: &[u8]) -> bool
         }
     }
     true
+}
+
+// Whether two runs of bytes are equal. It looks at all of them: sixteen at a time are faster than a stop at the first that differs.
+pub fn equal(a: &[u8], b: &[u8]) -> bool
+    requires { ⌜ length (now a) ≡ length (now b) ⌝ }
+    ensures { λ r. ⌜ r ≡ same (now (a .entry)) (now (b .entry)) ⌝ }
+{
+    let mut e = true;
+    for i in 0..a.len() {
+        e = e & (a[i] == b[i]);
+    }
+    e
 }
 
 // The sum of the first n units of 1 byte, modulo 2^8.

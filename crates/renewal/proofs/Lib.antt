@@ -1,0 +1,4 @@
+pub mod Slots
+pub mod Passing
+pub mod Adding
+pub mod Renewing
