@@ -17,11 +17,6 @@ use Rattle.renewal.specs.Table.{Entry, entryOf, homeOf}
 use Rattle.renewal.specs.Renewal.{barred, storeSmall, putAnswer, addRead, addEntry, entryIn, ownBytes, tableAdded, storeAdded}
 use Rattle.renewal.proofs.Passing.{Taken}
 
--- where a packet's bytes stand in their buffer has no say in its entry
-pub entry-anywhere : (recording place : ℕ) (w : List ℕ) (at : ℕ) → entryOf recording (packetIn w 0 place) ≡ entryOf recording (packetIn w at place)
-unfolding packetIn
-entry-anywhere recording place w at = refl
-
 module _ (t : List Entry) (recording place start n : ℕ) where
   pub put-long : (r : Refusal) → 1024 < n → r ≡ barred 21 start place → Unadded r ≡ putAnswer t recording place start n
   unfolding putAnswer
@@ -53,6 +48,15 @@ table-set k t e = refl
 pub store-set : (k : ℕ) (store bytes : List ℕ) → splice store (k * 1024) bytes ≡ storeAdded (Added k) store bytes
 unfolding storeAdded
 store-set k store bytes = refl
+
+-- where a packet's bytes stand in their buffer has no say in its entry
+pub table-anywhere : (x : EntryAdd) (t u : List Entry) (recording place at : ℕ) (w : List ℕ)
+    → u ≡ tableAdded x t (entryOf recording (packetIn w 0 place)) → u ≡ tableAdded x t (entryOf recording (packetIn w at place))
+unfolding packetIn
+table-anywhere x t u recording place at w is = is
+
+pub store-own : (x : EntryAdd) (store after w : List ℕ) (n : ℕ) → n ≡ packetLength w → after ≡ storeAdded x store (take n w) → after ≡ storeAdded x store (ownBytes w)
+store-own x store after w n long is = rw long at is
 
 -- ---- the call
 

@@ -1,4 +1,4 @@
-pub mod Slots
+pub mod Seeking
 pub mod Passing
 pub mod Adding
 pub mod Renewing

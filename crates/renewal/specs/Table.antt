@@ -12,9 +12,12 @@ use Rattle.packet.specs.declared.Packet.{Packet}
 abbrev pub Entry : Type 0
 Entry = List ℕ
 
--- the first says whether it lives: any but 0 does, and 0 is a free slot's
+-- the first is 0 where the slot is free; with any other word the entry lives
+abbrev pub free : Entry → Bool
+free e = eqb (getD e 0 0) 0
+
 abbrev pub live : Entry → Bool
-live e = not (eqb (getD e 0 0) 0)
+live e = not (free e)
 
 -- recording number, place, P, channel, sequence, RTC
 abbrev pub recordingOf : Entry → ℕ
@@ -45,9 +48,6 @@ entry t k = getD t k []
 -- an entry's name is its recording number and place
 abbrev pub named : ℕ → ℕ → Entry → Bool
 named recording place e = live e && eqb (recordingOf e) recording && eqb (placeOf e) place
-
-abbrev pub free : Entry → Bool
-free e = not (live e)
 
 -- the lowest slot whose entry is as asked for; past the last if there is none
 unfoldable pub lowest : (Entry → Bool) → List Entry → ℕ

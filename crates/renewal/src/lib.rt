@@ -26,8 +26,8 @@ use reading::pass_window;
 use slots::LENGTH;
 use slots::drop_entry;
 use slots::home_of;
-use slots::live_from;
 use slots::put_entry;
+use slots::seek;
 use slots::slot_of;
 
 // A row for each slot: whether its entry lives (any word but 0), recording number, place, P, channel, sequence, RTC.
@@ -64,7 +64,7 @@ pub fn empty() -> Table
 pub fn next_live(table: &Table, from: usize) -> usize
     ensures { λ r. ⌜ r ≡ nextLive (now (table .entry)) from ⌝ }
 {
-    live_from(table, from)
+    seek(table, from, Wanted::Live)
 }
 
 // A refusal at the window's start, whose place in the recording is the name's.
@@ -146,7 +146,10 @@ fn held(store: &[u8], k: usize, n: u64, bytes: &[u8]) -> bool
     requires { ⌜ (65536 ≤ length (now store)) × (k < 64) ⌝ }
     ensures { λ r. ⌜ r ≡ holds (now (store .entry)) k n (now (bytes .entry)) ⌝ }
 {
-    if (1024 < n) | (n != bytes.len() as u64) {
+    if 1024 < n {
+        return false;
+    }
+    if n != bytes.len() as u64 {
         return false;
     }
     let at = k * 1024;

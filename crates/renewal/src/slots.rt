@@ -3,7 +3,7 @@ ghost use mathlib.Core.Path.{_≡_};
 ghost use Prim.Native.Nat.{_<_, _≤_};
 ghost use lib.ListN.{length, set};
 ghost use Rattle.packet.specs.Read.{packetIn};
-ghost use Rattle.renewal.specs.Table.{entryOf, noEntry, entry, slotOf, freeOf, homeOf, nextLive};
+ghost use Rattle.renewal.specs.Table.{entryOf, noEntry, entry, slotOf, homeOf};
 ghost use Rattle.renewal.specs.inner.Slots.{suits, lowestFrom};
 use crate::Table;
 use crate::Wanted;
@@ -48,7 +48,7 @@ fn suits(table: &Table, k: usize, wanted: Wanted) -> bool
 }
 
 // The lowest such slot at or behind this one, 64 if there is none.
-fn seek(table: &Table, from: usize, wanted: Wanted) -> usize
+pub fn seek(table: &Table, from: usize, wanted: Wanted) -> usize
     ensures { λ r. ⌜ r ≡ lowestFrom (suits wanted) (now (table .entry)) from ⌝ }
 {
     let n = slots(table);
@@ -80,11 +80,11 @@ pub fn home_of(table: &Table, recording: u64, place: u64) -> usize
     seek(table, 0, Wanted::Free)
 }
 
-// The lowest live slot at or behind this one, 64 if there is none.
-pub fn live_from(table: &Table, from: usize) -> usize
-    ensures { λ r. ⌜ r ≡ nextLive (now (table .entry)) from ⌝ }
+// A byte as a word.
+fn word_of(byte: u8) -> u64
+    ensures { λ r. ⌜ r ≡ byte ⌝ }
 {
-    seek(table, from, Wanted::Live)
+    byte as u64
 }
 
 // The entry of the packet at the start of a window's bytes, which stands at this place in this recording.
@@ -94,7 +94,7 @@ pub fn put_entry(table: &mut Table, k: usize, recording: u64, place: u64, w: &[u
 {
     let length = read32(w, 4) as u64;
     let channel = read16(w, 2) as u64;
-    let sequence = w[13] as u64;
+    let sequence = word_of(w[13]);
     let rtc = read48(w, 16);
     table[k] = [1, recording, place, length, channel, sequence, rtc];
 }

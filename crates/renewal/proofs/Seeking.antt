@@ -57,7 +57,7 @@ module _ (f : Entry → Bool) (t : List Entry) (all : length t ≡ 64) (from : �
       go : (b : Bool) → ltb from 64 ≡ b → 64 ≡ pick b (from + lowest f (drop from t)) 64
       go true q =
           let below : from < 64 = ltb-true from 64 q in
-          let last : lowest f (drop k t) ≡ 0 = rw (drop-of-length-le t (omega (arith, all))) in
+          let last : lowest f (drop k t) ≡ 0 = rw (drop-of-length-le t {i = k} (omega (arith, all))) in
           omega (arith, s .1 below, last)
       go false q = refl
 
