@@ -27,7 +27,7 @@ use Rattle.packet_bytes.specs.Bytes.{packetBytes}
 use Rattle.packet.specs.Write.{writePacket, outAfter}
 use Rattle.packet.specs.declared.PacketWrite.{PacketWrite}
 use Rattle.packet.specs.declared.PacketWrite.the-variants.{Unwritten}
-use Rattle.ch11.specs.Words.{refusalSize, stateWords, draftWords}
+use Rattle.ch11_words.specs.Words.{refusalSize, stateWords, draftWords}
 use Rattle.ch11.specs.Given.{fieldsFit, writeGiven, draftOf, addGiven}
 
 -- the words behind a struct's refusal are the state in them

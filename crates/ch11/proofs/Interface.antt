@@ -15,7 +15,7 @@ use Rattle.builder.specs.declared.Draft.{Draft}
 use Rattle.builder.specs.declared.Step.{Step}
 use Rattle.builder.specs.declared.Step.the-variants.{Done, Denied}
 use Rattle.frame.specs.declared.Fields.{Fields}
-use Rattle.ch11.specs.Words.{packetWords, listWords, messageWords, recordingWords, writtenWords, draftWords}
+use Rattle.ch11_words.specs.Words.{packetWords, listWords, messageWords, recordingWords, writtenWords, draftWords}
 use Rattle.ch11.specs.Given.{fieldsFit, writeGiven, addGiven}
 use Rattle.ch11.specs.Calls.{Holds}
 use Rattle.ch11.specs.Interface.{Held, Answers, Interface}

@@ -13,7 +13,9 @@ use Rattle.packet.specs.Read.{window, readPacket, packetTold}
 use Rattle.packet.specs.Messages.{listPacket, listAfter, listTold, starts, lengths, messagePacket, messageTold}
 use Rattle.packet.specs.Write.{outAfter, writeTold}
 use Rattle.recording.specs.Reading.{readRecording}
-use Rattle.ch11.specs.Words.{packetWords, listWords, messageWords, recordingWords, writtenWords, draftWords}
+use Rattle.renewal.specs.Table.{Entry, slotOf, nextLive}
+use Rattle.renewal.specs.Renewal.{addEntry, entryIn, ownBytes, tableAdded, storeAdded, addTold, renewEntry, tableRenewed, renewTold}
+use Rattle.ch11_words.specs.Words.{packetWords, listWords, messageWords, recordingWords, writtenWords, draftWords, addedWords, renewedWords}
 use Rattle.ch11.specs.Given.{fieldsOf, writeGiven, draftOf, addGiven}
 
 -- a struct holds these words, and the number returned is its first: the refusal's number, 0 for none
@@ -69,3 +71,22 @@ abbrev pub Close : List ℕ → List ℕ → ℕ → List ℕ → List ℕ → T
 Close draft₀ buf₀ r draft₁ buf₁ =
     Holds (draftWords (stepTold (closeStep (draftOf draft₀) (length buf₀)))) r draft₁
     × (buf₁ ≡ bufAfter (closeStep (draftOf draft₀) (length buf₀)) buf₀ 0 (counterBytes (draftOf draft₀)))
+
+-- ---- the renewal table: table and store at entry; then the number, the struct, and table and store at exit
+
+-- ch11_renewal_add(table, store, recording, place, buf, start, end, added)
+abbrev pub RenewalAdd : List Entry → List ℕ → ℕ → ℕ → List ℕ → ℕ → ℕ → ℕ → List ℕ → List Entry → List ℕ → Type 0
+RenewalAdd table₀ store₀ recording place buf start end r added table₁ store₁ =
+    Holds (addedWords (addTold (addEntry table₀ (length store₀) recording place buf start end))) r added
+    × (table₁ ≡ tableAdded (addEntry table₀ (length store₀) recording place buf start end) table₀ (entryIn recording place buf start end))
+    × (store₁ ≡ storeAdded (addEntry table₀ (length store₀) recording place buf start end) store₀ (ownBytes (window buf start end)))
+
+-- ch11_renewal_renew(table, store, recording, place, buf, start, end, renewed)
+abbrev pub RenewalRenew : List Entry → List ℕ → ℕ → ℕ → List ℕ → ℕ → ℕ → ℕ → List ℕ → List Entry → Type 0
+RenewalRenew table₀ store recording place buf start end r renewed table₁ =
+    Holds (renewedWords (renewTold (renewEntry table₀ store recording place buf start end))) r renewed
+    × (table₁ ≡ tableRenewed (renewEntry table₀ store recording place buf start end) table₀ (slotOf recording place table₀))
+
+-- ch11_renewal_next(table, slot)
+abbrev pub RenewalNext : List Entry → ℕ → ℕ → Type 0
+RenewalNext table slot r = r ≡ nextLive table slot

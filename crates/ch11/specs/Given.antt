@@ -13,7 +13,7 @@ use Rattle.builder.specs.declared.Step.the-variants.{Denied}
 use Rattle.frame.specs.Contents.{Contents}
 use Rattle.frame.specs.declared.Fields.{Fields}
 use Rattle.packet.specs.Write.{writePacket}
-use Rattle.ch11.specs.Words.{refusalSize}
+use Rattle.ch11_words.specs.Words.{refusalSize}
 use Rattle.packet.specs.declared.PacketWrite.{PacketWrite}
 use Rattle.packet.specs.declared.PacketWrite.the-variants.{Unwritten}
 

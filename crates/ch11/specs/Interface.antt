@@ -21,7 +21,7 @@ use Rattle.packet.specs.declared.PacketList.{PacketList}
 use Rattle.packet.specs.declared.PacketWrite.{PacketWrite}
 use Rattle.recording.specs.Reading.{readRecording}
 use Rattle.recording.specs.declared.Recording.{Recording}
-use Rattle.ch11.specs.Words.{packetWords, listWords, messageWords, recordingWords, writtenWords, draftWords}
+use Rattle.ch11_words.specs.Words.{packetWords, listWords, messageWords, recordingWords, writtenWords, draftWords}
 use Rattle.ch11.specs.Calls as Calls
 use Rattle.ch11.specs.Given.{fieldsOf, writeGiven, draftOf, addGiven}
 

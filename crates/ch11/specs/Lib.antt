@@ -1,4 +1,3 @@
-pub mod Words
 pub mod Given
 pub mod Calls
 pub mod Interface

@@ -1,32 +1,39 @@
 // The C interface: each public call of the library, with its result in a lent struct of 64-bit words (include/ch11.h).
 // Each returns the refusal's number, 0 for none, which is also the struct's first word; specs/Calls.antt says all that it leaves behind.
-ghost use Rattle.ch11.specs.Calls.{ReadPacket, ListMessages, GiveMessage, ReadRecording, WritePacket, Open, Add, Close};
+ghost use Rattle.ch11.specs.Calls.{ReadPacket, ListMessages, GiveMessage, ReadRecording, WritePacket, Open, Add, Close, RenewalAdd, RenewalRenew, RenewalNext};
 use packet::PacketRead;
 use packet::list_messages;
 use packet::message;
 use packet::read_packet;
 use recording::read_recording;
+use renewal::Table;
+use renewal::add;
+use renewal::next_live;
+use renewal::renew;
 
 mod given;
-mod words;
 
+use ch11_words::ADDED;
+use ch11_words::DRAFT;
+use ch11_words::FIELDS;
+use ch11_words::LIST;
+use ch11_words::MESSAGE;
+use ch11_words::PACKET;
+use ch11_words::RECORDING;
+use ch11_words::RENEWED;
+use ch11_words::WRITTEN;
+use ch11_words::added_words;
+use ch11_words::list_words;
+use ch11_words::message_words;
+use ch11_words::packet_words;
+use ch11_words::recording_words;
+use ch11_words::refused_words;
+use ch11_words::renewed_words;
+use ch11_words::written_words;
 use given::add_given;
 use given::close_given;
 use given::open_given;
 use given::write_given;
-use words::DRAFT;
-use words::FIELDS;
-use words::LIST;
-use words::MESSAGE;
-use words::PACKET;
-use words::RECORDING;
-use words::WRITTEN;
-use words::list_words;
-use words::message_words;
-use words::packet_words;
-use words::recording_words;
-use words::refused_words;
-use words::written_words;
 
 // Reads the packet at the start of a window: packet::read_packet.
 #[no_mangle]
@@ -144,4 +151,48 @@ pub extern "C" fn ch11_close(draft: &mut [u64; DRAFT], buf: &mut [u8]) -> u64
 {
     *draft = close_given(*draft, buf);
     draft[0]
+}
+
+// Adds a packet to a renewal table: renewal::add.
+#[no_mangle]
+pub extern "C" fn ch11_renewal_add(
+    table: &mut Table,
+    store: &mut [u8],
+    recording: u64,
+    place: u64,
+    buf: &[u8],
+    start: usize,
+    end: usize,
+    added: &mut [u64; ADDED],
+) -> u64
+    ensures { λ r. ⌜ RenewalAdd (now (table .entry)) (now (store .entry)) recording place (now (buf .entry)) start end r (now (added .exit)) (now (table .exit)) (now (store .exit)) ⌝ }
+{
+    *added = added_words(add(table, store, recording, place, buf, start, end));
+    added[0]
+}
+
+// Renews an entry of a renewal table: renewal::renew.
+#[no_mangle]
+pub extern "C" fn ch11_renewal_renew(
+    table: &mut Table,
+    store: &[u8],
+    recording: u64,
+    place: u64,
+    buf: &[u8],
+    start: usize,
+    end: usize,
+    renewed: &mut [u64; RENEWED],
+) -> u64
+    ensures { λ r. ⌜ RenewalRenew (now (table .entry)) (now (store .entry)) recording place (now (buf .entry)) start end r (now (renewed .exit)) (now (table .exit)) ⌝ }
+{
+    *renewed = renewed_words(renew(table, store, recording, place, buf, start, end));
+    renewed[0]
+}
+
+// The lowest live slot of a renewal table at or behind this one, 64 if there is none: renewal::next_live.
+#[no_mangle]
+pub extern "C" fn ch11_renewal_next(table: &Table, slot: usize) -> usize
+    ensures { λ r. ⌜ RenewalNext (now (table .entry)) slot r ⌝ }
+{
+    next_live(table, slot)
 }

@@ -2,7 +2,7 @@ use mathlib.Core.Path.{refl, ap, _∙_}
 use borrow.Author.Needs.{needs}
 use Rattle.packet.specs.Read.{window}
 use Rattle.packet.specs.Messages.{listAfter, starts, lengths, listTold}
-use Rattle.ch11.specs.Words.{listWords}
+use Rattle.ch11_words.specs.Words.{listWords}
 use Rattle.ch11.proofs.ch11_list_messages.Statement.{statement}
 use Rattle.ch11.proofs.ch11_list_messages.Tie as tie
 

@@ -1,7 +1,7 @@
 use mathlib.Core.Path.{refl, ap, _∙_}
 use borrow.Author.Needs.{needs}
 use Rattle.packet.specs.Messages.{messageTold}
-use Rattle.ch11.specs.Words.{messageWords}
+use Rattle.ch11_words.specs.Words.{messageWords}
 use Rattle.ch11.proofs.ch11_message.Statement.{statement}
 use Rattle.ch11.proofs.ch11_message.Tie as tie
 

@@ -2,7 +2,7 @@ use mathlib.Core.Path.{sym, ap, _∙_}
 use lib.ListN.{getD}
 use borrow.Author.Needs.{needs}
 use Rattle.packet.specs.Read.{packetTold}
-use Rattle.ch11.specs.Words.{packetWords}
+use Rattle.ch11_words.specs.Words.{packetWords}
 use Rattle.ch11.proofs.ch11_read_packet.Statement.{statement}
 use Rattle.ch11.proofs.ch11_read_packet.Tie as tie
 

@@ -1,6 +1,6 @@
 use mathlib.Core.Path.{refl, ap, _∙_}
 use borrow.Author.Needs.{needs}
-use Rattle.ch11.specs.Words.{recordingWords}
+use Rattle.ch11_words.specs.Words.{recordingWords}
 use Rattle.ch11.proofs.ch11_read_recording.Statement.{statement}
 use Rattle.ch11.proofs.ch11_read_recording.Tie as tie
 

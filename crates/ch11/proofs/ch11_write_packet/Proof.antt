@@ -3,7 +3,7 @@ use borrow.Author.Needs.{needs}
 use Rattle.frame.specs.Contents.{contents}
 use Rattle.packet.specs.Write.{outAfter, writeTold}
 use Rattle.packet_bytes.specs.Bytes.{packetBytes}
-use Rattle.ch11.specs.Words.{writtenWords}
+use Rattle.ch11_words.specs.Words.{writtenWords}
 use Rattle.ch11.specs.Given.{fieldsOf}
 use Rattle.ch11.proofs.ch11_write_packet.Statement.{statement}
 use Rattle.ch11.proofs.ch11_write_packet.Tie as tie

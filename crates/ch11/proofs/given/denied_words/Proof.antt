@@ -3,7 +3,7 @@ use mathlib.Core.List.{List, _++_}
 use Prim.Native.Nat.{ℕ, _+_}
 use lib.ListN.{length}
 use borrow.Author.Needs.{needs}
-use Rattle.ch11.specs.Words.{refusalSize, refusalWords, draftWords}
+use Rattle.ch11_words.specs.Words.{refusalSize, refusalWords, draftWords}
 use Rattle.ch11.proofs.Giving.{state-kept}
 use Rattle.ch11.proofs.given.denied_words.Statement.{statement}
 use Rattle.ch11.proofs.given.denied_words.Tie as tie

@@ -1,9 +1,9 @@
 use mathlib.Core.Path.{sym, ap, _∙_}
 use borrow.Author.Needs.{needs}
 use Rattle.packet.specs.Messages.{listTold}
-use Rattle.ch11.specs.Words.{listWords}
-use Rattle.ch11.proofs.words.list_words.Statement.{statement}
-use Rattle.ch11.proofs.words.list_words.Tie as tie
+use Rattle.ch11_words.specs.Words.{listWords}
+use Rattle.ch11_words.proofs.list_words.Statement.{statement}
+use Rattle.ch11_words.proofs.list_words.Tie as tie
 
 returns : tie.Need-returns
 unfolding listWords

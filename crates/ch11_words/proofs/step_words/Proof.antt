@@ -1,9 +1,9 @@
 use mathlib.Core.Path.{sym, ap, _∙_}
 use borrow.Author.Needs.{needs}
 use Rattle.builder.specs.Build.{stepTold}
-use Rattle.ch11.specs.Words.{draftWords}
-use Rattle.ch11.proofs.words.step_words.Statement.{statement}
-use Rattle.ch11.proofs.words.step_words.Tie as tie
+use Rattle.ch11_words.specs.Words.{draftWords}
+use Rattle.ch11_words.proofs.step_words.Statement.{statement}
+use Rattle.ch11_words.proofs.step_words.Tie as tie
 
 returns : tie.Need-returns
 unfolding draftWords

@@ -1,8 +1,8 @@
 use mathlib.Core.Path.{refl}
 use borrow.Author.Needs.{needs}
-use Rattle.ch11.specs.Words.{packetWords}
-use Rattle.ch11.proofs.words.packet_words.Statement.{statement}
-use Rattle.ch11.proofs.words.packet_words.Tie as tie
+use Rattle.ch11_words.specs.Words.{packetWords}
+use Rattle.ch11_words.proofs.packet_words.Statement.{statement}
+use Rattle.ch11_words.proofs.packet_words.Tie as tie
 
 returns : tie.Need-returns
 unfolding packetWords

@@ -2,9 +2,9 @@ use native.Mathlib.Omega.{arith}
 use lib.ListN.{length-set}
 use lib.Seq.{sets-eq}
 use borrow.Author.Needs.{needs}
-use Rattle.ch11.specs.Words.{refusalSize, stateWords}
-use Rattle.ch11.proofs.words.put_state.Statement.{statement}
-use Rattle.ch11.proofs.words.put_state.Tie as tie
+use Rattle.ch11_words.specs.Words.{refusalSize, stateWords}
+use Rattle.ch11_words.proofs.put_state.Statement.{statement}
+use Rattle.ch11_words.proofs.put_state.Tie as tie
 
 returns : tie.Need-returns
 returns c = let a = c .before .before .args in sets-eq (stateWords (a .d)) (a .words .now) refusalSize (c .before .before .pre)

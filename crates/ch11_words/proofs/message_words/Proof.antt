@@ -1,9 +1,9 @@
 use mathlib.Core.Path.{sym, ap, _∙_}
 use borrow.Author.Needs.{needs}
 use Rattle.packet.specs.Messages.{messageTold}
-use Rattle.ch11.specs.Words.{messageWords}
-use Rattle.ch11.proofs.words.message_words.Statement.{statement}
-use Rattle.ch11.proofs.words.message_words.Tie as tie
+use Rattle.ch11_words.specs.Words.{messageWords}
+use Rattle.ch11_words.proofs.message_words.Statement.{statement}
+use Rattle.ch11_words.proofs.message_words.Tie as tie
 
 returns : tie.Need-returns
 unfolding messageWords

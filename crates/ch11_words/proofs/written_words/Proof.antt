@@ -1,9 +1,9 @@
 use mathlib.Core.Path.{sym, ap, _∙_}
 use borrow.Author.Needs.{needs}
 use Rattle.packet.specs.Write.{writeTold}
-use Rattle.ch11.specs.Words.{writtenWords}
-use Rattle.ch11.proofs.words.written_words.Statement.{statement}
-use Rattle.ch11.proofs.words.written_words.Tie as tie
+use Rattle.ch11_words.specs.Words.{writtenWords}
+use Rattle.ch11_words.proofs.written_words.Statement.{statement}
+use Rattle.ch11_words.proofs.written_words.Tie as tie
 
 returns : tie.Need-returns
 unfolding writtenWords

@@ -1,7 +1,7 @@
 use borrow.Author.Needs.{needs}
-use Rattle.ch11.specs.Words.{packetWords}
-use Rattle.ch11.proofs.words.refused_words.Statement.{statement}
-use Rattle.ch11.proofs.words.refused_words.Tie as tie
+use Rattle.ch11_words.specs.Words.{packetWords}
+use Rattle.ch11_words.proofs.refused_words.Statement.{statement}
+use Rattle.ch11_words.proofs.refused_words.Tie as tie
 
 returns : tie.Need-returns
 unfolding packetWords

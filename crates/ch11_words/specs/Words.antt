@@ -12,6 +12,7 @@ use Rattle.packet.specs.Messages.{ListTold, MessageTold}
 use Rattle.packet.specs.Write.{WriteTold}
 use Rattle.packet.specs.declared.Part.{Part}
 use Rattle.recording.specs.declared.Recording.{Recording}
+use Rattle.renewal.specs.Renewal.{AddTold, RenewTold}
 
 -- ---- structs inside others
 
@@ -68,3 +69,13 @@ stateWords d = d .used ∷ d .blocks ∷ d .kind ∷ d .rule ∷ []
 -- struct ch11_draft
 unfoldable pub draftWords : StepTold → List ℕ
 draftWords t = refusalWords (t .refusal) ++ stateWords (t .draft)
+
+-- ---- the renewal table, whose struct ch11_table is its 64 rows of words
+
+-- struct ch11_added
+unfoldable pub addedWords : AddTold → List ℕ
+addedWords t = refusalWords (t .refusal) ++ (t .slot ∷ [])
+
+-- struct ch11_renewed
+unfoldable pub renewedWords : RenewTold → List ℕ
+renewedWords t = refusalWords (t .refusal) ++ (t .lives ∷ refusalWords (t .cause))

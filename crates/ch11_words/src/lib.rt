@@ -1,4 +1,4 @@
-// An answer as the words of its struct: the refusal's first, then its own.
+// The structs of include/ch11.h: an answer as the words of its struct, the refusal's first, then its own.
 ghost use mathlib.Core.Path.{_≡_};
 ghost use Prim.Native.Nat.{_+_, _≤_};
 ghost use lib.ListN.{length};
@@ -8,7 +8,8 @@ ghost use Rattle.packet.specs.Read.{packetTold};
 ghost use Rattle.packet.specs.declared.PacketRead.the-variants.{Accepted, Refused};
 ghost use Rattle.packet.specs.Messages.{listTold, messageTold};
 ghost use Rattle.packet.specs.Write.{writeTold};
-ghost use Rattle.ch11.specs.Words.{refusalSize, refusalWords, packetWords, listWords, messageWords, recordingWords, writtenWords, stateWords, draftWords};
+ghost use Rattle.ch11_words.specs.Words.{refusalSize, refusalWords, packetWords, listWords, messageWords, recordingWords, writtenWords, stateWords, draftWords, addedWords, renewedWords};
+ghost use Rattle.renewal.specs.Renewal.{addTold, renewTold};
 use builder::Draft;
 use builder::Step;
 use packet::Packet;
@@ -16,6 +17,8 @@ use packet::PacketList;
 use packet::PacketMessage;
 use packet::PacketWrite;
 use recording::Recording;
+use renewal::EntryAdd;
+use renewal::EntryRenewal;
 use terms::Refusal;
 
 // The words of each struct of include/ch11.h.
@@ -34,6 +37,10 @@ pub const RECORDING: usize = REFUSAL + 3;
 pub const WRITTEN: usize = REFUSAL + 1;
 
 pub const DRAFT: usize = REFUSAL + 4;
+
+pub const ADDED: usize = REFUSAL + 1;
+
+pub const RENEWED: usize = REFUSAL + 1 + REFUSAL;
 
 // struct ch11_refusal, the first words of every other struct.
 pub fn put_refusal(words: &mut [u64], f: Refusal)
@@ -185,4 +192,42 @@ fn put_state(words: &mut [u64], d: Draft)
     words[REFUSAL + 1] = d.blocks;
     words[REFUSAL + 2] = d.kind as u64;
     words[REFUSAL + 3] = d.rule as u64;
+}
+
+// struct ch11_added.
+pub fn added_words(answer: EntryAdd) -> [u64; ADDED]
+    ensures { λ r. ⌜ r ≡ addedWords (addTold answer) ⌝ }
+{
+    let mut words = [0; ADDED];
+    match answer {
+        EntryAdd::Added(slot) => {
+            words[REFUSAL] = slot as u64;
+            words
+        }
+        EntryAdd::Unadded(f) => {
+            put_refusal(&mut words, f);
+            words
+        }
+    }
+}
+
+// struct ch11_renewed: the reader's refusal, by which an entry is dropped, stands behind `lives`.
+pub fn renewed_words(answer: EntryRenewal) -> [u64; RENEWED]
+    ensures { λ r. ⌜ r ≡ renewedWords (renewTold answer) ⌝ }
+{
+    let mut words = [0; RENEWED];
+    match answer {
+        EntryRenewal::Lives => {
+            words[REFUSAL] = 1;
+            words
+        }
+        EntryRenewal::Dropped(f) => {
+            put_refusal(&mut words[REFUSAL + 1..RENEWED], f);
+            words
+        }
+        EntryRenewal::Unrenewed(f) => {
+            put_refusal(&mut words, f);
+            words
+        }
+    }
 }

@@ -1,7 +1,7 @@
 use borrow.Author.Needs.{needs}
-use Rattle.ch11.specs.Words.{recordingWords}
-use Rattle.ch11.proofs.words.recording_words.Statement.{statement}
-use Rattle.ch11.proofs.words.recording_words.Tie as tie
+use Rattle.ch11_words.specs.Words.{recordingWords}
+use Rattle.ch11_words.proofs.recording_words.Statement.{statement}
+use Rattle.ch11_words.proofs.recording_words.Tie as tie
 
 returns : tie.Need-returns
 unfolding recordingWords
