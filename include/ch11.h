@@ -1,4 +1,4 @@
-/* ch11: read, list, build and write IRIG 106 Chapter 11 packets.
+/* ch11: read, list, build and write IRIG 106 Chapter 11 packets, and keep packets in a table that drops what a lab has withdrawn.
  *
  * A recording is a run of packets. A packet is a 24-byte header, a 12-byte secondary header if it has one, a body, 0 to 3 bytes of
  * filler and a data sum if it has one. Bodies of type 0x30 (Message) and 0x50 (UART) are opened: they hold messages. Bodies of the
@@ -15,10 +15,10 @@
  * the window's start. Whoever has no use for it gives base 0 and has distances from the window's start. The base changes nothing else,
  * save that base plus window length must not pass 2^64 - 1 (refusal 1). (A message's start is counted from its packet's first byte.)
  *
- * Every result is written into a struct of 64-bit numbers, which needs no filling beforehand, save the builder's. Each call returns the
- * refusal's number, 0 for none; the struct begins with the same number. On a refusal all other results are 0, but for its two places,
- * the room (of 16), the reason (of 15), the recording's three numbers and the builder's state; lists, buffers and outputs are then as
- * they were.
+ * Every result is written into a struct of 64-bit numbers, which needs no filling beforehand, save the builder's and the table. Each call
+ * but ch11_renewal_next returns the refusal's number, 0 for none; the struct begins with the same number. On a refusal all other results are 0, but for its two places,
+ * the room (of 16), the reason (of 15), the recording's three numbers and the builder's state; lists, buffers, outputs, tables and stores
+ * are then as they were.
  *
  * A length may be 0. Pointers must not be null, not even then; they must be aligned for their type and good for the length given, a
  * struct's for the struct. What a call may write to must not overlap anything else that the same call is lent.
@@ -74,8 +74,11 @@ enum {
     CH11_FILLER = 14,        /* filler not zero */
     CH11_LAYOUT = 15,        /* an opened body breaks its layout; a builder's time out of form, or a body closed without a block; the
                                 reason is given */
-    CH11_ROOM = 16,          /* no room in a list or output; the room needed is given */
-    CH11_RANGE = 17          /* writer or builder input out of range, or no message of that number */
+    CH11_ROOM = 16,          /* no room in a list or output, or a store under 65,536 bytes; the room needed is given */
+    CH11_RANGE = 17,         /* writer or builder input out of range, or no message of that number */
+    CH11_FULL = 19,          /* 64 other entries live in the table */
+    CH11_NO_ENTRY = 20,      /* no entry of that name in the table */
+    CH11_LONG = 21           /* a packet over 1,024 bytes, too long for a slot */
 };
 
 /* Reasons of 15: which rule of its layout a body breaks at that place. The channel word is looked at first, then block by block (a block
@@ -99,7 +102,7 @@ struct ch11_refusal {
     uint64_t place;           /* where, counted from the buffer's first byte: the start of the packet; for 15 the channel word or the first
                                  byte of the block at fault, of the bytes left over, or where a missing block should begin. Writer and
                                  builder: 0 */
-    uint64_t room;            /* for 16: the messages, or the bytes of the whole packet or body, that need room; else 0 */
+    uint64_t room;            /* for 16: the messages, or the bytes of the whole packet, body or store, that need room; else 0 */
     uint64_t reason;          /* for 15: the rule broken, CH11_REASON_..; else 0 */
     uint64_t recording_place; /* the same byte as `place`, counted from the recording's first byte: the base given plus `place` minus
                                  the window's start; for 1 the base. Writer and builder: 0 */
@@ -244,6 +247,64 @@ uint64_t ch11_add(struct ch11_draft *draft, uint8_t *buf, size_t len, uint64_t t
 
 /* Closes a body: writes its counter in 0x30, nothing in 0x50. 1, then 15, reason 7, where there is no block (the used count is 4). */
 uint64_t ch11_close(struct ch11_draft *draft, uint8_t *buf, size_t len);
+
+/* ---- the renewal table: packets that are kept, and renewed as long as the recording still has them */
+
+/* A server keeps packets, each in an entry of a table, and the packet's bytes in a slot of a store: entry k's bytes begin at
+ * store[k * CH11_SLOT_BYTES], and there are `length` of them. From time to time the caller renews an entry: it reads the recording again
+ * from the entry's place into some buffer and lends that window. The entry lives on exactly when the packet at the window's start is
+ * accepted and equals the held bytes; otherwise it is dropped in that same call. Nothing outside the window has a say: a packet that still
+ * stands behind the filled end, from the block before, renews nothing. */
+
+enum {
+    CH11_SLOTS = 64,         /* entries of a table, slots of a store */
+    CH11_SLOT_BYTES = 1024,  /* bytes of a slot */
+    CH11_STORE_BYTES = 65536 /* bytes of a store, at least; those behind are never looked at */
+};
+
+struct ch11_entry {
+    uint64_t live;      /* 0: the slot is free, and the other numbers say nothing; any other number: the entry lives */
+    uint64_t recording; /* the entry's name: the recording's number, which the caller gives out, */
+    uint64_t place;     /* and the packet's place, counted from the recording's first byte */
+    uint64_t length;    /* packet length P, in bytes */
+    uint64_t channel;
+    uint64_t sequence;
+    uint64_t rtc;
+};
+
+/* Start with all zeros: an empty table. The caller may read it, also between the calls. Any other content is taken as it is, forged or
+ * not: a name held twice counts in its lowest slot, and an entry whose length is not that of a packet in its slot is dropped when renewed. */
+struct ch11_table {
+    struct ch11_entry slots[CH11_SLOTS];
+};
+
+struct ch11_added {
+    struct ch11_refusal refusal;
+    uint64_t slot; /* the entry's */
+};
+
+/* Adds the packet at the window's start, which is at this place of the recording (its base): the name's own slot if the name is held
+ * already, else the lowest free one. The entry is replaced whole; of the store the packet's `length` bytes are written and no others.
+ * 16 for a store under CH11_STORE_BYTES, which is the room needed, then the reader's refusals, then 21 for a packet over CH11_SLOT_BYTES,
+ * then 19 where 64 other entries live. All at the window's start, but 15. */
+uint64_t ch11_renewal_add(struct ch11_table *table, uint8_t *store, size_t store_len, uint64_t recording, uint64_t place, const uint8_t *buf,
+                          size_t len, size_t start, size_t end, struct ch11_added *added);
+
+struct ch11_renewed {
+    struct ch11_refusal refusal; /* of the call; an entry that is dropped is no refusal */
+    uint64_t lives;              /* 1: the entry lives on; 0: it is dropped, or the call is refused */
+    struct ch11_refusal cause;   /* where the reader refuses the packet, and the entry is dropped for it: its refusal; else all 0 */
+};
+
+/* Renews the entry of this name by the window at its place, as the recording is now. A dropped entry's slot is free, all its numbers 0.
+ * 16, then 20 where no entry of that name lives, then 1; all at the window's start. The reader's other refusals drop the entry. */
+uint64_t ch11_renewal_renew(struct ch11_table *table, const uint8_t *store, size_t store_len, uint64_t recording, uint64_t place,
+                            const uint8_t *buf, size_t len, size_t start, size_t end, struct ch11_renewed *renewed);
+
+/* The lowest slot at or behind this one whose entry lives; CH11_SLOTS if there is none. The live entries, one by one:
+ *
+ *     for (size_t k = ch11_renewal_next(&table, 0); k < CH11_SLOTS; k = ch11_renewal_next(&table, k + 1)) ..table.slots[k].. */
+size_t ch11_renewal_next(const struct ch11_table *table, size_t slot);
 
 #ifdef __cplusplus
 }

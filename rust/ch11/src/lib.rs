@@ -1,5 +1,6 @@
-//! Read, list, build and write IRIG 106 Chapter 11 packets: a safe wrapper over the formally
-//! verified library `libch11.a`. Nothing is decided here: every answer is the library's.
+//! Read, list, build and write IRIG 106 Chapter 11 packets, and keep them in a [`RenewalTable`]: a
+//! safe wrapper over the formally verified library `libch11.a`. Nothing is decided here: every answer
+//! is the library's.
 //!
 //! A recording is a run of packets. A packet is a 24-byte header, a 12-byte secondary header if it
 //! has one, a body, 0 to 3 bytes of filler and a data sum if it has one. Bodies of type [`MESSAGE`]
@@ -41,6 +42,7 @@ mod packet;
 #[allow(missing_docs)]
 pub mod raw;
 mod refusal;
+mod renewal;
 
 pub use builder::{Denied, Draft, TimeRule};
 pub use messages::{list_messages, message, message_count, messages, Message, Messages};
@@ -48,6 +50,7 @@ pub use packet::{
     packets, read_packet, read_recording, write_packet, Fields, Packet, Packets, Part, Recording,
 };
 pub use refusal::{Number, Reason, Refusal};
+pub use renewal::{Entries, Entry, RenewalTable, Renewed};
 
 /// The data type of message packets, whose bodies are opened. A time is stored with each message.
 pub const MESSAGE: u8 = 0x30;

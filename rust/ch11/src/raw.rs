@@ -98,6 +98,60 @@ pub struct Draft {
     pub rule: u64,
 }
 
+/// `CH11_SLOTS`
+pub const SLOTS: usize = 64;
+
+/// `CH11_SLOT_BYTES`
+pub const SLOT_BYTES: usize = 1024;
+
+/// `CH11_STORE_BYTES`
+pub const STORE_BYTES: usize = 65536;
+
+/// `struct ch11_entry`
+#[repr(C)]
+#[derive(Clone, Copy, Debug, Default, PartialEq, Eq)]
+pub struct Entry {
+    pub live: u64,
+    pub recording: u64,
+    pub place: u64,
+    pub length: u64,
+    pub channel: u64,
+    pub sequence: u64,
+    pub rtc: u64,
+}
+
+/// `struct ch11_table`
+#[repr(C)]
+#[derive(Clone, Copy, Debug, PartialEq, Eq)]
+pub struct Table {
+    pub slots: [Entry; SLOTS],
+}
+
+impl Default for Table {
+    fn default() -> Table {
+        Table {
+            slots: [Entry::default(); SLOTS],
+        }
+    }
+}
+
+/// `struct ch11_added`
+#[repr(C)]
+#[derive(Clone, Copy, Debug, Default, PartialEq, Eq)]
+pub struct Added {
+    pub refusal: Refusal,
+    pub slot: u64,
+}
+
+/// `struct ch11_renewed`
+#[repr(C)]
+#[derive(Clone, Copy, Debug, Default, PartialEq, Eq)]
+pub struct Renewed {
+    pub refusal: Refusal,
+    pub lives: u64,
+    pub cause: Refusal,
+}
+
 extern "C" {
     pub fn ch11_read_packet(
         buf: *const u8,
@@ -162,4 +216,32 @@ extern "C" {
     ) -> u64;
 
     pub fn ch11_close(draft: *mut Draft, buf: *mut u8, len: usize) -> u64;
+
+    pub fn ch11_renewal_add(
+        table: *mut Table,
+        store: *mut u8,
+        store_len: usize,
+        recording: u64,
+        place: u64,
+        buf: *const u8,
+        len: usize,
+        start: usize,
+        end: usize,
+        added: *mut Added,
+    ) -> u64;
+
+    pub fn ch11_renewal_renew(
+        table: *mut Table,
+        store: *const u8,
+        store_len: usize,
+        recording: u64,
+        place: u64,
+        buf: *const u8,
+        len: usize,
+        start: usize,
+        end: usize,
+        renewed: *mut Renewed,
+    ) -> u64;
+
+    pub fn ch11_renewal_next(table: *const Table, slot: usize) -> usize;
 }

@@ -42,10 +42,17 @@ pub enum Number {
     /// 15: an opened body breaks its layout; [`Refusal::reason`] is the rule broken. From a builder:
     /// a time out of form, or no block.
     Layout,
-    /// 16: no room in a list or output; [`Refusal::room`] is the room needed.
+    /// 16: no room in a list or output, or a store under 65,536 bytes; [`Refusal::room`] is the room
+    /// needed.
     Room,
     /// 17: an input of the writer or builder is out of range, or there is no message of that number.
     Range,
+    /// 19: 64 other entries live in the table.
+    Full,
+    /// 20: no entry of that name in the table.
+    NoEntry,
+    /// 21: a packet over 1,024 bytes, too long for a slot.
+    Long,
     /// A number that this version of the wrapper has no name for.
     Other(u64),
 }
@@ -122,8 +129,11 @@ numbered! {
     13 DataSum "wrong data sum",
     14 Filler "filler not zero",
     15 Layout "body breaks its layout",
-    16 Room "no room in a list or output",
+    16 Room "no room in a list, output or store",
     17 Range "input or message number out of range",
+    19 Full "64 other entries live",
+    20 NoEntry "no such entry",
+    21 Long "packet over 1,024 bytes",
 }
 
 numbered! {
@@ -147,7 +157,7 @@ pub struct Refusal {
     /// left over, or where a missing block should begin. The writer and the builder give 0.
     pub place: usize,
     /// With [`Number::Room`] the room needed: messages for a list, otherwise the bytes of the whole
-    /// packet or body. Else 0.
+    /// packet, body or store. Else 0.
     pub room: usize,
     /// With [`Number::Layout`] why: the rule broken. Else `None`.
     pub reason: Option<Reason>,

@@ -1,15 +1,18 @@
 //! A second program for the rules of document 01 and of the change request's
-//! sections 2 (layout refusals say why) and 9 (places in the recording): a
-//! reader for one packet, a lister of the messages in a packet, a reader for a
-//! whole recording, a body builder, a packet writer and the listing.
+//! sections 2 (layout refusals say why), 9 (places in the recording) and 13
+//! (the renewal table): a reader for one packet, a lister of the messages in a
+//! packet, a reader for a whole recording, a body builder, a packet writer, the
+//! listing and the renewal table over the reader.
 //!
 //! Sentences in quotation marks are those of document 01, or of the request
-//! where "Request 2:" or "Request 9:" stands ahead of them. The request
-//! outranks document 01.
+//! where "Request 2:", "Request 9:" or "Request 13:" stands ahead of them. The
+//! request outranks document 01.
 //!
 //! The four calls that read take a base behind the window: the place in the
 //! recording of the window's first byte. Request 9: "Recordings run to hundreds
-//! of gigabytes, our windows don't."
+//! of gigabytes, our windows don't." The two calls of the renewal table that
+//! take a window have that base ahead of it: it is the place in the entry's
+//! name. Request 13: "An entry's name is its recording number and place".
 
 #![forbid(unsafe_code)]
 
@@ -17,12 +20,14 @@ mod body;
 mod builder;
 mod listing;
 mod reader;
+mod renewal;
 mod rules;
 mod writer;
 
 pub use builder::{add, close, open};
 pub use listing::{listing, LONGEST_INPUT};
 pub use reader::{list_messages, message, read_packet, read_recording};
+pub use renewal::{renewal_add, renewal_next, renewal_renew, Added, Entry, Renewed};
 pub use writer::write_packet;
 
 /// "A refusal returns its number and place; all other results are zero, save
@@ -37,6 +42,9 @@ pub use writer::write_packet;
 /// same byte as `place`: for a packet at the window's start the base itself,
 /// save for 15. The writer's and the builder's is 0, as their place is: they
 /// have no window and no base. Without a refusal there is no place: both are 0.
+///
+/// The renewal table adds 19, 20 and 21, at the window's start as its 16 is; the
+/// room of that 16 is the 65,536 bytes of a whole store.
 #[derive(Clone, Copy, Debug, PartialEq, Eq, Default)]
 pub struct Refusal {
     pub number: u64,

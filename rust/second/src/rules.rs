@@ -20,6 +20,14 @@ pub const WRONG_BODY: u64 = 15;
 pub const NO_ROOM: u64 = 16;
 pub const OUT_OF_RANGE: u64 = 17;
 
+/// The refusals of the renewal table. Request 13: "19 exactly when 64 other
+/// entries live"
+pub const TABLE_FULL: u64 = 19;
+/// Request 13: "20 no such entry"
+pub const NO_SUCH_ENTRY: u64 = 20;
+/// Request 13: "21 packet over 1,024 bytes"
+pub const PACKET_TOO_LONG: u64 = 21;
+
 /// The reasons of refusal 15. Request 2: "Have the block walk name the rule
 /// broken: 1 channel word (or under 4 bytes),"
 pub const REASON_CHANNEL_WORD: u64 = 1;
