@@ -1,7 +1,7 @@
 -- Laws of what is written: `splice`, runs of writes, and a loop that writes a byte a turn.
 use mathlib.Core.Path.{_≡_, refl, sym, ap, _∙_}
 use mathlib.Core.List.{List, [], _++_, append-assoc, append-nil}
-use Prim.Native.Nat.{ℕ, _+_, _%_, _/_, _^_, _≤_, _<_}
+use Prim.Native.Nat.{ℕ, _+_, _-_, _%_, _/_, _^_, _≤_, _<_}
 use native.Mathlib.Omega.{arith}
 use native.Mathlib.Nat.{add-zero}
 use native.Mathlib.Numerals.{add-one}
@@ -40,6 +40,13 @@ module _ (bs : List ℕ) (at : ℕ) (vs : List ℕ) (fits : at + length vs ≤ l
       (part-front (take at bs) (vs ++ drop (at + length vs) bs) b m k
       ∙ sym (part-front (take at bs) (drop at bs) b m k)
       ∙ ap (λ (l : List ℕ). part l b m) (take-append-drop at bs))
+
+  pub part-splice-behind : (b m : ℕ) → at + length vs ≤ b → part (splice bs at vs) b m ≡ part bs b m
+  part-splice-behind b m h =
+      let k : at + length vs + (b - (at + length vs)) ≡ b = omega arith in
+      let behind : (l : List ℕ) → part (drop (at + length vs) l) (b - (at + length vs)) m ≡ part l b m
+      = λ l. ap (take m) (drop-drop (b - (at + length vs)) (at + length vs) l ∙ ap (λ (n : ℕ). drop n l) k) in
+      sym (behind (splice bs at vs)) ∙ ap (λ (l : List ℕ). part l (b - (at + length vs)) m) drop-splice ∙ behind bs
 
   -- a write right behind another is one write
   pub splice-splice : (next : ℕ) (us : List ℕ) → next ≡ at + length vs → next + length us ≤ length bs
