@@ -294,3 +294,36 @@ module _ (t : Rows) (all : length t ≡ 64) (store : List ℕ) (recording place 
         untouched = told-untouched r t′ store′ ti si;
         answers = told-answers r said;
       }
+
+  -- what becomes of table and store: nothing, or the packet goes where its name is to be held
+  pub record PutHome (r : EntryAdd) (t′ : Rows) (store′ : List ℕ) : Type 0 where
+    pub packet : Packet
+    pub read : readPacket buf start end place ≡ Accepted packet
+    pub short : packet .length ≤ 1024
+    pub room : 65536 ≤ length store
+    pub slot : homeOf recording place t < 64
+    pub told : r ≡ Added (homeOf recording place t)
+    pub put : Put t store recording place buf start packet (homeOf recording place t) t′ store′
+    pub written : store′ ≡ splice store (homeOf recording place t * 1024) (part buf start (packet .length))
+
+  pub effect : (r : EntryAdd) (t′ : Rows) (store′ : List ℕ) → Add t store recording place buf start end r t′ store′ → ((t′ ≡ t) × (store′ ≡ store) × (addTold r .refusal .number ≢ 0)) ⊎ PutHome r t′ store′
+  unfolding tableAdded storeAdded
+  effect r t′ store′ (is, ti, si) = go r (rw is (way t store recording place buf start end)) ti si
+    where
+      go : (x : EntryAdd) → Goes x → t′ ≡ tableAdded x t (entryIn recording place buf start end) → store′ ≡ storeAdded x store (ownBytes (window buf start end))
+          → ((t′ ≡ t) × (store′ ≡ store) × (addTold x .refusal .number ≢ 0)) ⊎ PutHome x t′ store′
+      go _ (small h) ti si = inl (ti, si, λ z. omega (arith, z))
+      go _ (reader _ f read) ti si = inl (ti, si, refusal-numbered buf start end place f read)
+      go _ (long _ p read h) ti si = inl (ti, si, λ z. omega (arith, z))
+      go _ (full _ p read short h) ti si = inl (ti, si, λ z. omega (arith, z))
+      go _ (goes room p read short h) ti si =
+          inr (record {
+            packet = p;
+            read = read;
+            short = short;
+            room = room;
+            slot = h;
+            told = refl;
+            put = rw (ti, si) (put-in p room read short (homeOf recording place t) h);
+            written = si ∙ ap (splice store (homeOf recording place t * 1024)) (own-bytes buf start end place p read);
+          })

@@ -267,3 +267,20 @@ module _ (t : Rows) (all : length t ≡ 64) (store : List ℕ) (recording place 
         answers = told-lives r;
         answers-dropped = told-dropped r said;
       }
+
+  -- what becomes of the table: nothing, or the entry of the name is dropped
+  pub record DropsHome (t′ : Rows) : Type 0 where
+    pub slot : slotOf recording place t < 64
+    pub drops : Drops t (slotOf recording place t) t′
+
+  pub effect : (r : EntryRenewal) (t′ : Rows) → Renew t store recording place buf start end r t′ → (t′ ≡ t) ⊎ DropsHome t′
+  unfolding tableRenewed
+  effect r t′ (is, ti) = go r (rw is (way t store recording place buf start end)) ti
+    where
+      go : (x : EntryRenewal) → Goes x → t′ ≡ tableRenewed x t (slotOf recording place t) → (t′ ≡ t) ⊎ DropsHome t′
+      go _ (small h) ti = inl ti
+      go _ (absent room none) ti = inl ti
+      go _ (outside room slot o) ti = inl ti
+      go _ (refused room slot i f read) ti = inr (record { slot = slot; drops = rw ti (drops (slotOf recording place t) slot) })
+      go _ (lives room slot i p read h) ti = inl ti
+      go _ (differs room slot i p read h) ti = inr (record { slot = slot; drops = rw ti (drops (slotOf recording place t) slot) })

@@ -50,7 +50,7 @@ pub record Renewal : Type 0 where
       → Renew t store recording place a start end r t₁ → Renew t store recording place b start end q t₂ → (r ≡ q) × (t₁ ≡ t₂)
   -- the same bytes elsewhere in a buffer: the same lives and the same is dropped
   pub renew-elsewhere : (t : Rows) (store : List ℕ) (recording place : ℕ) (a b : List ℕ) (start end start′ end′ : ℕ) (r q : EntryRenewal) (t₁ t₂ : Rows)
-      → Within a start end place → Within b start′ end′ place → window a start end ≡ window b start′ end′
+      → length t ≡ 64 → Within a start end place → Within b start′ end′ place → window a start end ≡ window b start′ end′
       → Renew t store recording place a start end r t₁ → Renew t store recording place b start′ end′ q t₂
       → (renewTold r .lives ≡ renewTold q .lives) × (t₁ ≡ t₂)
   -- ---- what is kept
