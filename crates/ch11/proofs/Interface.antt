@@ -15,7 +15,7 @@ use Rattle.builder.specs.declared.Draft.{Draft}
 use Rattle.builder.specs.declared.Step.{Step}
 use Rattle.builder.specs.declared.Step.the-variants.{Done, Denied}
 use Rattle.frame.specs.declared.Fields.{Fields}
-use Rattle.ch11_words.specs.Words.{packetWords, listWords, messageWords, recordingWords, writtenWords, draftWords}
+use Rattle.ch11_words.specs.Words.{packetWords, listWords, messageWords, recordingWords, writtenWords, draftWords, addedWords, renewedWords}
 use Rattle.ch11.specs.Given.{fieldsFit, writeGiven, addGiven}
 use Rattle.ch11.specs.Calls.{Holds}
 use Rattle.ch11.specs.Interface.{Held, Answers, Interface}
@@ -105,7 +105,7 @@ answers : (number : ℕ) (rest : List ℕ) (n : ℕ) (s : List ℕ) → Holds (n
 answers number rest n s (is, first) = (first ∙ ap (λ (l : List ℕ). getD l 0 0) is, is)
 
 pub interface : Interface
-unfolding packetWords listWords messageWords recordingWords writtenWords draftWords writeGiven
+unfolding packetWords listWords messageWords recordingWords writtenWords draftWords addedWords renewedWords writeGiven
 interface =
     record {
       packet = λ t. refl;
@@ -114,6 +114,8 @@ interface =
       recording = λ r. refl;
       written = λ t. refl;
       draft = λ t. refl;
+      added = λ t. refl;
+      renewed = λ t. refl;
       fields-given = λ channel version sequence flags kind rtc time. refl;
       draft-given = λ number place room reason recorded used blocks kind rule. refl;
       write-17 = λ c room n. rw (unheld (c .fields) n);
@@ -126,6 +128,9 @@ interface =
       open-body = λ draft₀ buf₀ kind rule n s buf₁ (h, b). (_, refl, answers _ _ n s h, b);
       add-block = λ draft₀ buf₀ time upper bytes n s buf₁ (h, b). (_, refl, answers _ _ n s h, b);
       close-body = λ draft₀ buf₀ n s buf₁ (h, b). (_, refl, answers _ _ n s h, b);
+      renewal-add = λ table₀ store₀ recording place buf start end n s table₁ store₁ (h, t, b). (_, refl, answers _ _ n s h, t, b);
+      renewal-renew = λ table₀ store recording place buf start end n s table₁ (h, t). (_, refl, answers _ _ n s h, t);
+      renewal-next = λ table slot n h. h;
       add-17 = given-17;
       add-1 = λ d len time upper n e. given-1 d len time upper n (bad-says d len time n e);
       adds = given-as;

@@ -3,7 +3,8 @@ use mathlib.Core.Path.{_≡_, sym, ap, _∙_}
 use mathlib.Core.List.{List}
 use Prim.Native.Nat.{ℕ}
 use lib.ListN.{getD}
-use Rattle.ch11.specs.Calls.{Holds, ReadPacket, ListMessages, GiveMessage, ReadRecording, WritePacket, Open, Add, Close}
+use Rattle.renewal.specs.Table.{Entry}
+use Rattle.ch11.specs.Calls.{Holds, ReadPacket, ListMessages, GiveMessage, ReadRecording, WritePacket, Open, Add, Close, RenewalAdd, RenewalRenew, RenewalNext}
 
 -- ---- an outcome: a struct and the number returned, alone or with one more slice
 
@@ -58,3 +59,22 @@ add-once draft₀ buf₀ time upper bytes r r′ draft₁ draft₁′ buf₁ buf
 pub close-once : (draft₀ buf₀ : List ℕ) (r r′ : ℕ) (draft₁ draft₁′ buf₁ buf₁′ : List ℕ) → Close draft₀ buf₀ r draft₁ buf₁ → Close draft₀ buf₀ r′ draft₁′ buf₁′
     → (r ≡ r′) × (draft₁ ≡ draft₁′) × (buf₁ ≡ buf₁′)
 close-once draft₀ buf₀ r r′ draft₁ draft₁′ buf₁ buf₁′ = with-once _ _ r r′ draft₁ draft₁′ buf₁ buf₁′
+
+-- ---- the renewal table
+
+pub renewal-add-once : (table₀ : List Entry) (store₀ : List ℕ) (recording place : ℕ) (buf : List ℕ) (start end r r′ : ℕ) (added added′ : List ℕ) (table₁ table₁′ : List Entry)
+    (store₁ store₁′ : List ℕ) → RenewalAdd table₀ store₀ recording place buf start end r added table₁ store₁
+    → RenewalAdd table₀ store₀ recording place buf start end r′ added′ table₁′ store₁′ → (r ≡ r′) × (added ≡ added′) × (table₁ ≡ table₁′) × (store₁ ≡ store₁′)
+renewal-add-once table₀ store₀ recording place buf start end r r′ added added′ table₁ table₁′ store₁ store₁′ h h′ =
+    let e = holds-once _ r r′ added added′ (h .0) (h′ .0) in
+    (e .0, e .1, h .1 ∙ sym (h′ .1), h .2 ∙ sym (h′ .2))
+
+pub renewal-renew-once : (table₀ : List Entry) (store : List ℕ) (recording place : ℕ) (buf : List ℕ) (start end r r′ : ℕ) (renewed renewed′ : List ℕ) (table₁ table₁′ : List Entry)
+    → RenewalRenew table₀ store recording place buf start end r renewed table₁ → RenewalRenew table₀ store recording place buf start end r′ renewed′ table₁′
+    → (r ≡ r′) × (renewed ≡ renewed′) × (table₁ ≡ table₁′)
+renewal-renew-once table₀ store recording place buf start end r r′ renewed renewed′ table₁ table₁′ h h′ =
+    let e = holds-once _ r r′ renewed renewed′ (h .0) (h′ .0) in
+    (e .0, e .1, h .1 ∙ sym (h′ .1))
+
+pub renewal-next-once : (table : List Entry) (slot r r′ : ℕ) → RenewalNext table slot r → RenewalNext table slot r′ → r ≡ r′
+renewal-next-once table slot r r′ h h′ = h ∙ sym h′

@@ -21,7 +21,11 @@ use Rattle.packet.specs.declared.PacketList.{PacketList}
 use Rattle.packet.specs.declared.PacketWrite.{PacketWrite}
 use Rattle.recording.specs.Reading.{readRecording}
 use Rattle.recording.specs.declared.Recording.{Recording}
-use Rattle.ch11_words.specs.Words.{packetWords, listWords, messageWords, recordingWords, writtenWords, draftWords}
+use Rattle.renewal.specs.Table.{Entry, slotOf, nextLive}
+use Rattle.renewal.specs.Renewal.{addEntry, entryIn, ownBytes, tableAdded, storeAdded, AddTold, addTold, renewEntry, tableRenewed, RenewTold, renewTold}
+use Rattle.renewal.specs.declared.EntryAdd.{EntryAdd}
+use Rattle.renewal.specs.declared.EntryRenewal.{EntryRenewal}
+use Rattle.ch11_words.specs.Words.{packetWords, listWords, messageWords, recordingWords, writtenWords, draftWords, addedWords, renewedWords}
 use Rattle.ch11.specs.Calls as Calls
 use Rattle.ch11.specs.Given.{fieldsOf, writeGiven, draftOf, addGiven}
 
@@ -57,6 +61,12 @@ pub record Interface : Type 0 where
   pub draft : (t : StepTold)
       → draftWords t
       ≡ t .refusal .number ∷ t .refusal .place ∷ t .refusal .room ∷ t .refusal .reason ∷ t .refusal .«recording_place» ∷ t .draft .used ∷ t .draft .blocks ∷ t .draft .kind ∷ t .draft .rule ∷ []
+  -- struct ch11_added and ch11_renewed, which ends with the reader's refusal by which an entry is dropped; struct ch11_table is the table's own words
+  pub added : (t : AddTold) → addedWords t ≡ t .refusal .number ∷ t .refusal .place ∷ t .refusal .room ∷ t .refusal .reason ∷ t .refusal .«recording_place» ∷ t .slot ∷ []
+  pub renewed : (t : RenewTold)
+      → renewedWords t
+      ≡ t .refusal .number ∷ t .refusal .place ∷ t .refusal .room ∷ t .refusal .reason ∷ t .refusal .«recording_place» ∷ t .lives
+      ∷ t .cause .number ∷ t .cause .place ∷ t .cause .room ∷ t .cause .reason ∷ t .cause .«recording_place» ∷ []
   -- struct ch11_fields and ch11_draft, as they are given
   pub fields-given : (channel version sequence flags kind rtc time : ℕ)
       → fieldsOf (channel ∷ version ∷ sequence ∷ flags ∷ kind ∷ rtc ∷ time ∷ [])
@@ -99,3 +109,12 @@ pub record Interface : Type 0 where
   pub close-body : (draft₀ buf₀ : List ℕ) (n : ℕ) (s buf₁ : List ℕ) → Calls.Close draft₀ buf₀ n s buf₁
       → (t : Step) × (t ≡ closeStep (draftOf draft₀) (length buf₀)) × Answers (stepTold t .refusal .number) (draftWords (stepTold t)) n s
       × (buf₁ ≡ bufAfter t buf₀ 0 (counterBytes (draftOf draft₀)))
+  pub renewal-add : (table₀ : List Entry) (store₀ : List ℕ) (recording place : ℕ) (buf : List ℕ) (start end n : ℕ) (s : List ℕ) (table₁ : List Entry) (store₁ : List ℕ)
+      → Calls.RenewalAdd table₀ store₀ recording place buf start end n s table₁ store₁
+      → (t : EntryAdd) × (t ≡ addEntry table₀ (length store₀) recording place buf start end) × Answers (addTold t .refusal .number) (addedWords (addTold t)) n s
+      × (table₁ ≡ tableAdded t table₀ (entryIn recording place buf start end)) × (store₁ ≡ storeAdded t store₀ (ownBytes (window buf start end)))
+  pub renewal-renew : (table₀ : List Entry) (store : List ℕ) (recording place : ℕ) (buf : List ℕ) (start end n : ℕ) (s : List ℕ) (table₁ : List Entry)
+      → Calls.RenewalRenew table₀ store recording place buf start end n s table₁
+      → (t : EntryRenewal) × (t ≡ renewEntry table₀ store recording place buf start end) × Answers (renewTold t .refusal .number) (renewedWords (renewTold t)) n s
+      × (table₁ ≡ tableRenewed t table₀ (slotOf recording place table₀))
+  pub renewal-next : (table : List Entry) (slot n : ℕ) → Calls.RenewalNext table slot n → n ≡ nextLive table slot
