@@ -1,6 +1,6 @@
 #!/bin/bash
 # Counts the instructions of one pass over each input, by the emulator, and holds the counts to those that docs/BENCH.md states.
-# Usage: bash rust/bench/count.sh [--markdown | --own]: only prints the table, as docs/BENCH.md has it, or by the machine's own Rust.
+# Usage: bash rust/bench/count.sh [--markdown | --own]: only prints the tables, as docs/BENCH.md has them, or by the machine's own Rust.
 # Otherwise Debian's rustc and emulator are used on every machine, so that the counts are the same on all.
 set -euo pipefail
 shopt -s inherit_errexit
@@ -75,9 +75,14 @@ commas() {
     sed -E ':more; s/([0-9])([0-9]{3})(,|$)/\1,\2\3/; t more' <<<"$1"
 }
 
-# The count for one of so many packets, rounded; - where there is only one.
+# The count for one of so many packets, rounded.
+share() {
+    echo $((($1 + $2 / 2) / $2))
+}
+
+# The same with commas; - where there is only one.
 each() {
-    if [ "$2" -gt 1 ]; then commas $((($1 + $2 / 2) / $2)); else echo -; fi
+    if [ "$2" -gt 1 ]; then commas "$(share "$@")"; else echo -; fi
 }
 
 # The first count in parts of the second, to two places.
@@ -94,6 +99,24 @@ print_table() {
         printf "$1" "$name" "$(commas "$library")" "$(commas "$rust")" "$(ratio "$library" "$rust")" \
             "$(commas "$inlined")" "$(ratio "$library" "$inlined")" \
             "$(each "$library" "$packets")" "$(each "$rust" "$packets")" "$(commas "$read_only")"
+    done <<<"$counts"
+}
+
+# The recording of the packet that the renewal table's rows take. It has no sum: to read it takes the same at any length.
+reader=64-byte-none
+
+# Prints what one call of the renewal table takes without the reader: each row's name and counts, by this format of four strings.
+print_apart() {
+    local name packets library rust one_library one_rust
+    read -r _ packets library rust _ <<<"$(grep "^$reader " <<<"$counts")"
+    one_library=$(share "$library" "$packets")
+    one_rust=$(share "$rust" "$packets")
+    while read -r name packets library rust _; do
+        [[ $name =~ ^(add|new|renew|drop)- ]] || continue
+        library=$(($(share "$library" "$packets") - one_library))
+        rust=$(($(share "$rust" "$packets") - one_rust))
+        # shellcheck disable=SC2059
+        printf "$1" "$name" "$library" "$rust" "$(ratio "$library" "$rust")"
     done <<<"$counts"
 }
 
@@ -138,6 +161,10 @@ if [ "$mode" = --markdown ]; then
     echo '| Input | Library | Rust | Ratio | Rust, inlined | Ratio | Library, a packet | Rust, a packet | Read-only |'
     echo '|---|---|---|---|---|---|---|---|---|'
     print_table '| %s | %s | %s | %s | %s | %s | %s | %s | %s |\n'
+    echo
+    echo '| Input | Library | Rust | Ratio |'
+    echo '|---|---|---|---|'
+    print_apart '| %s | %s | %s | %s |\n'
     exit
 fi
 echo "Rust by $(emulate "$bench" compiler)"
@@ -148,6 +175,9 @@ format='%-16s %10s %10s %6s %10s %6s %9s %9s %9s\n'
 # shellcheck disable=SC2059
 printf "$format" input library Rust ratio inlined ratio library/1 Rust/1 read-only
 print_table "$format"
+echo
+echo "one call of the renewal table, reader apart"
+print_apart '%-16s %10s %10s %6s\n'
 [ "$rust" = debian ] || exit 0
 faults=$(while read -r name _ library rust _; do faults_of "$name" "$library" "$rust"; done <<<"$counts"; uncounted)
 [ -z "$faults" ] || { echo "$faults" >&2; exit 1; }

@@ -1,5 +1,6 @@
 //! The answers of the Rust side as the structs of the C interface, to be held against the library's.
 use crate::same;
+use crate::same::renewal::Renewed;
 use ch11::raw;
 
 pub fn packet(answer: Result<same::Packet, same::Refusal>) -> raw::Packet {
@@ -61,6 +62,29 @@ pub fn message(answer: Result<same::Message, same::Refusal>) -> raw::Message {
         Err(reason) => raw::Message {
             refusal: refusal(reason),
             ..raw::Message::default()
+        },
+    }
+}
+
+pub fn added(answer: Result<usize, same::Refusal>) -> raw::Added {
+    let (refusal, slot) = number(answer);
+    raw::Added { refusal, slot }
+}
+
+pub fn renewed(answer: Result<Renewed, same::Refusal>) -> raw::Renewed {
+    let nothing = raw::Renewed::default();
+    match answer {
+        Ok(Renewed::Lives) => raw::Renewed {
+            lives: 1,
+            ..nothing
+        },
+        Ok(Renewed::Dropped(cause)) => raw::Renewed {
+            cause: cause.map_or(nothing.cause, refusal),
+            ..nothing
+        },
+        Err(reason) => raw::Renewed {
+            refusal: refusal(reason),
+            ..nothing
         },
     }
 }

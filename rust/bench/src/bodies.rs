@@ -59,6 +59,13 @@ pub fn packet(fields: &raw::Fields, body: &[u8]) -> Vec<u8> {
     out
 }
 
+/// A carried packet of this length, type 0x40, without a sum.
+pub fn carried(length: usize) -> Vec<u8> {
+    let carried = packet(&fields(0x00, 0x40, 0), &noise(length - 24));
+    assert_eq!(carried.len(), length);
+    carried
+}
+
 /// Adds a block to an opened body: its time stamp (if it has one), its ID word and its bytes.
 pub fn add_block(body: &mut Vec<u8>, time: Option<u64>, bytes: &[u8]) {
     if let Some(time) = time {

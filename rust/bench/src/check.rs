@@ -1,5 +1,6 @@
 //! Both sides must give the same answers before anything is timed.
 use crate::as_raw;
+use crate::check_renewal;
 use crate::inputs::{Call, Input};
 use crate::library;
 use crate::same;
@@ -15,15 +16,18 @@ const SPOILT: usize = 2_048;
 const SPOILT_TWICE: usize = 64;
 
 /// What stands in lists and outputs beforehand.
-const UNTOUCHED: u8 = 0xA5;
+pub const UNTOUCHED: u8 = 0xA5;
 
 /// The base of most windows: 500 GB into a recording.
-const FAR: u64 = 500_000_000_000;
+pub const FAR: u64 = 500_000_000_000;
 
 /// Compares the row's call on its packet, or a recording's answer and all calls on its packets, and then spoilt copies of the first
-/// packet if it is short.
+/// packet if it is short. The renewal table's rows have checks of their own.
 pub fn check(input: &Input) {
     let bytes = input.bytes();
+    if let Call::Renewal(..) = input.call {
+        return check_renewal::check(bytes);
+    }
     compare(input.call, bytes, 0, bytes.len(), FAR);
     if input.call == Call::ReadRecording {
         check_recording(input);
@@ -52,7 +56,7 @@ pub fn all_refusals_seen() {
 }
 
 /// Notes the refusal of an answer that both sides gave, and its reason.
-fn note(refusal: &raw::Refusal) {
+pub fn note(refusal: &raw::Refusal) {
     SEEN.fetch_or(1 << refusal.number, Ordering::Relaxed);
     REASONS_SEEN.fetch_or(1 << refusal.reason, Ordering::Relaxed);
 }
@@ -141,6 +145,7 @@ fn compare(call: Call, bytes: &[u8], start: usize, end: usize, base: u64) {
                 compare_outputs(&fields_in(packet), body_in(packet));
             }
         }
+        Call::Renewal(..) => unreachable!("check_renewal compares it"),
     }
 }
 
@@ -303,7 +308,7 @@ fn body_at(packet: &[u8]) -> usize {
 }
 
 /// Writes the header sum, the secondary sum and the data sum that the bytes call for.
-fn put_sums_right(packet: &mut [u8]) {
+pub fn put_sums_right(packet: &mut [u8]) {
     put_sum(packet, 0, 22, 2);
     if has_secondary(packet) {
         put_sum(packet, 24, 34, 2);

@@ -1,8 +1,9 @@
 //! The rows: what is read or written, and by which call. The library's writer makes the packets.
 use crate::aligned::Aligned;
 use crate::bodies::{
-    case_l_body, fields, full_message_body, message_body, noise, packet, small_uart_body,
+    carried, case_l_body, fields, full_message_body, message_body, noise, packet, small_uart_body,
 };
+use crate::kept::Step;
 use crate::mixed::mixed;
 
 /// The longest packet of a carried type, and the size of a recording.
@@ -20,6 +21,8 @@ pub enum Call {
     /// The last message, by its number.
     Message,
     WritePacket,
+    /// A step on a renewal table in which so many entries live.
+    Renewal(Step, usize),
 }
 
 /// A row: the bytes of one packet or of a recording, the call, and how many calls make up one pass.
@@ -55,7 +58,7 @@ impl Input {
 type Maker = fn(&'static str) -> Input;
 
 /// All rows by name; an input is made when it is asked for.
-pub const INPUTS: [(&str, Maker); 22] = [
+pub const INPUTS: [(&str, Maker); 34] = [
     ("512K-sum8-even", |name| one(name, 1, false)),
     ("512K-sum8-odd", |name| one(name, 1, true)),
     ("512K-sum16-even", |name| one(name, 2, false)),
@@ -87,6 +90,18 @@ pub const INPUTS: [(&str, Maker); 22] = [
     ("message-512K", |name| large(name, Call::Message)),
     ("write-64", |name| small(name, Call::WritePacket)),
     ("write-512K", |name| large(name, Call::WritePacket)),
+    ("64-byte-none", |name| again(name, &carried(64))),
+    ("add-60", |name| kept(name, 60, Step::Replace, 1)),
+    ("add-64", |name| kept(name, 64, Step::Replace, 1)),
+    ("add-1K", |name| kept(name, 1_024, Step::Replace, 1)),
+    ("add-64-full", |name| kept(name, 64, Step::Replace, 64)),
+    ("new-64", |name| kept(name, 64, Step::New, 0)),
+    ("new-64-full", |name| kept(name, 64, Step::New, 63)),
+    ("renew-60", |name| kept(name, 60, Step::Renew, 1)),
+    ("renew-64", |name| kept(name, 64, Step::Renew, 1)),
+    ("renew-1K", |name| kept(name, 1_024, Step::Renew, 1)),
+    ("renew-64-full", |name| kept(name, 64, Step::Renew, 64)),
+    ("drop-64", |name| kept(name, 64, Step::Drop, 0)),
 ];
 
 /// One carried packet of 512 KiB with the data sum of this code (bits 1-0 of the flags).
@@ -105,9 +120,12 @@ fn one(name: &'static str, code: u8, odd: bool) -> Input {
 
 /// A recording that is the same packet again and again.
 fn many(name: &'static str, flags: u8, kind: u8, time: u64, body: &[u8]) -> Input {
-    let bytes = packet(&fields(flags, kind, time), body);
-    let packets = RECORDING / bytes.len();
-    recording(name, &bytes.repeat(packets), packets)
+    again(name, &packet(&fields(flags, kind, time), body))
+}
+
+fn again(name: &'static str, packet: &[u8]) -> Input {
+    let packets = RECORDING / packet.len();
+    recording(name, &packet.repeat(packets), packets)
 }
 
 fn recording(name: &'static str, bytes: &[u8], packets: usize) -> Input {
@@ -130,6 +148,17 @@ fn small(name: &'static str, call: Call) -> Input {
         calls: SMALL_CALLS,
         packets: 1,
         bytes: Aligned::copy_of(&bytes, false),
+    }
+}
+
+/// A carried packet of this length without a sum, on a renewal table in which so many entries live.
+fn kept(name: &'static str, length: usize, step: Step, live: usize) -> Input {
+    Input {
+        name,
+        call: Call::Renewal(step, live),
+        calls: SMALL_CALLS,
+        packets: 1,
+        bytes: Aligned::copy_of(&carried(length), false),
     }
 }
 

@@ -79,6 +79,58 @@ pub fn write_packet(fields: &raw::Fields, body: &[u8], out: &mut [u8], written: 
     };
 }
 
+pub fn renewal_add(
+    table: &mut raw::Table,
+    store: &mut [u8],
+    (recording, place): (u64, u64),
+    bytes: &[u8],
+    start: usize,
+    end: usize,
+    added: &mut raw::Added,
+) {
+    // SAFETY: the pointers are good for their lengths and don't overlap.
+    unsafe {
+        raw::ch11_renewal_add(
+            table,
+            store.as_mut_ptr(),
+            store.len(),
+            recording,
+            place,
+            bytes.as_ptr(),
+            bytes.len(),
+            start,
+            end,
+            added,
+        )
+    };
+}
+
+pub fn renewal_renew(
+    table: &mut raw::Table,
+    store: &[u8],
+    (recording, place): (u64, u64),
+    bytes: &[u8],
+    start: usize,
+    end: usize,
+    renewed: &mut raw::Renewed,
+) {
+    // SAFETY: the pointers are good for their lengths and don't overlap.
+    unsafe {
+        raw::ch11_renewal_renew(
+            table,
+            store.as_ptr(),
+            store.len(),
+            recording,
+            place,
+            bytes.as_ptr(),
+            bytes.len(),
+            start,
+            end,
+            renewed,
+        )
+    };
+}
+
 /// The number of messages in the packet at the start of a window; 0 if it is refused.
 pub fn count_messages(bytes: &[u8], start: usize, end: usize) -> usize {
     let mut list = raw::List::default();

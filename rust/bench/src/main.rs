@@ -11,7 +11,9 @@ mod aligned;
 mod as_raw;
 mod bodies;
 mod check;
+mod check_renewal;
 mod inputs;
+mod kept;
 mod library;
 mod mixed;
 mod same;
@@ -67,6 +69,7 @@ fn table(arguments: &[String]) {
         check::check(&input);
         print_line(&input, &timing::measure(&input, rounds));
     }
+    check_renewal::check_others();
     check::all_refusals_seen();
 }
 

@@ -1,6 +1,7 @@
 //! The three things that are timed on an input: the library, the same method in Rust, and a pass that only reads.
 use crate::aligned::Aligned;
 use crate::inputs::{Call, Input};
+use crate::kept::{Kept, Step};
 use crate::library;
 use crate::same;
 use crate::same::units::sum64;
@@ -27,7 +28,7 @@ impl Side {
 }
 
 /// What the calls on an input's first packet are lent and told: lists with room for all messages, the last message's number,
-/// the packet's fields and body, and an output with room for it.
+/// the packet's fields and body, an output with room for it, and for the renewal table's rows the table.
 pub struct Lent<'a> {
     starts: Vec<u32>,
     lengths: Vec<u32>,
@@ -35,6 +36,7 @@ pub struct Lent<'a> {
     fields: raw::Fields,
     body: &'a [u8],
     out: Aligned,
+    kept: Option<Kept>,
 }
 
 impl<'a> Lent<'a> {
@@ -50,7 +52,15 @@ impl<'a> Lent<'a> {
             fields: packet.fields,
             body: &bytes[packet.body.at as usize..][..packet.body.length as usize],
             out: Aligned::copy_of(&vec![0; packet.length as usize], false),
+            kept: match input.call {
+                Call::Renewal(step, live) => Some(Kept::holding(live, step, bytes)),
+                _ => None,
+            },
         }
+    }
+
+    fn kept(&mut self) -> &mut Kept {
+        self.kept.as_mut().expect("a row of the renewal table")
     }
 }
 
@@ -87,7 +97,26 @@ fn run_library(input: &Input, lent: &mut Lent, calls: usize) {
                 library::write_packet(&lent.fields, &lent.body[at..], out, written)
             })
         }
+        Call::Renewal(step, _) => run_library_renewal(step, bytes, lent.kept(), calls),
     }
+}
+
+fn run_library_renewal(step: Step, bytes: &[u8], kept: &mut Kept, steps: usize) {
+    let (mut added, mut renewed) = (raw::Added::default(), raw::Renewed::default());
+    let name = kept.name;
+    kept.repeat(
+        step,
+        steps,
+        bytes.len(),
+        |table, store, at, end| {
+            library::renewal_add(table, store, name, bytes, at, end, &mut added);
+            keep(&added)
+        },
+        |table, store, at, end| {
+            library::renewal_renew(table, store, name, bytes, at, end, &mut renewed);
+            keep(&renewed)
+        },
+    )
 }
 
 fn run_rust(input: &Input, lent: &mut Lent, calls: usize) {
@@ -115,7 +144,20 @@ fn run_rust(input: &Input, lent: &mut Lent, calls: usize) {
                 keep(&same::write_packet(&lent.fields, &lent.body[at..], out))
             })
         }
+        Call::Renewal(step, _) => run_rust_renewal(step, bytes, lent.kept(), calls),
     }
+}
+
+fn run_rust_renewal(step: Step, bytes: &[u8], kept: &mut Kept, steps: usize) {
+    use same::renewal::{add, renew};
+    let (recording, place) = kept.name;
+    kept.repeat(
+        step,
+        steps,
+        bytes.len(),
+        |table, store, at, end| keep(&add(table, store, recording, place, bytes, at, end)),
+        |table, store, at, end| keep(&renew(table, store, recording, place, bytes, at, end)),
+    )
 }
 
 /// Repeats a call of the library, which puts its answer into a struct.
@@ -128,7 +170,7 @@ fn repeat_into<Answer: Default>(calls: usize, mut call: impl FnMut(usize, &mut A
 }
 
 /// Calls again and again with a 0 that the compiler doesn't know, for start and base.
-fn repeat(calls: usize, mut call: impl FnMut(usize)) {
+pub fn repeat(calls: usize, mut call: impl FnMut(usize)) {
     let start = 0;
     for _ in 0..calls {
         // SAFETY: a reference is good to read.

@@ -1,9 +1,10 @@
 //! The library's method in plain safe Rust: the same tests in the same order, nothing kept and nothing allocated; only a block at fault is
 //! looked at again, to name the rule that it breaks, which costs a sound one nothing.
-//! Its five calls are not inlined into their callers, as the library's are not. What else is inlined the compiler chooses, as for the
+//! Its seven calls are not inlined into their callers, as the library's are not. What else is inlined the compiler chooses, as for the
 //! library; with the feature `inlined` the tests that the calls share are forced into each.
 mod body;
 mod frame;
+pub mod renewal;
 mod rules;
 pub mod units;
 mod write;
@@ -223,6 +224,7 @@ fn pass_packets(mut rest: &[u8]) -> Passed {
 }
 
 /// The number of messages of the packet at the window's first byte, or the first of the reader's refusals from 2 on that applies.
+#[cfg_attr(feature = "inlined", inline(always))]
 fn check_packet(window: &[u8]) -> Result<usize, Fault> {
     check_frame(window).map_err(|number| Fault {
         number,
