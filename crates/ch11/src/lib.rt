@@ -6,6 +6,7 @@ use packet::list_messages;
 use packet::message;
 use packet::read_packet;
 use recording::read_recording;
+use renewal::EntryRenewal;
 use renewal::Table;
 use renewal::add;
 use renewal::next_live;
@@ -23,12 +24,14 @@ use ch11_words::RECORDING;
 use ch11_words::RENEWED;
 use ch11_words::WRITTEN;
 use ch11_words::added_words;
+use ch11_words::dropped_words;
 use ch11_words::list_words;
+use ch11_words::lives_words;
 use ch11_words::message_words;
 use ch11_words::packet_words;
 use ch11_words::recording_words;
 use ch11_words::refused_words;
-use ch11_words::renewed_words;
+use ch11_words::unrenewed_words;
 use ch11_words::written_words;
 use given::add_given;
 use given::close_given;
@@ -185,8 +188,20 @@ pub extern "C" fn ch11_renewal_renew(
 ) -> u64
     ensures { λ r. ⌜ RenewalRenew (now (table .entry)) (now (store .entry)) recording place (now (buf .entry)) start end r (now (renewed .exit)) (now (table .exit)) ⌝ }
 {
-    *renewed = renewed_words(renew(table, store, recording, place, buf, start, end));
-    renewed[0]
+    match renew(table, store, recording, place, buf, start, end) {
+        EntryRenewal::Lives => {
+            *renewed = lives_words();
+            0
+        }
+        EntryRenewal::Dropped(f) => {
+            *renewed = dropped_words(f);
+            0
+        }
+        EntryRenewal::Unrenewed(f) => {
+            *renewed = unrenewed_words(f);
+            f.number as u64
+        }
+    }
 }
 
 // The lowest live slot of a renewal table at or behind this one, 64 if there is none: renewal::next_live.

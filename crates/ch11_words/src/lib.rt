@@ -10,6 +10,7 @@ ghost use Rattle.packet.specs.Messages.{listTold, messageTold};
 ghost use Rattle.packet.specs.Write.{writeTold};
 ghost use Rattle.ch11_words.specs.Words.{refusalSize, refusalWords, packetWords, listWords, messageWords, recordingWords, writtenWords, stateWords, draftWords, addedWords, renewedWords};
 ghost use Rattle.renewal.specs.Renewal.{addTold, renewTold};
+ghost use Rattle.renewal.specs.declared.EntryRenewal.the-variants.{Lives, Dropped, Unrenewed};
 use builder::Draft;
 use builder::Step;
 use packet::Packet;
@@ -18,7 +19,6 @@ use packet::PacketMessage;
 use packet::PacketWrite;
 use recording::Recording;
 use renewal::EntryAdd;
-use renewal::EntryRenewal;
 use terms::Refusal;
 
 // The words of each struct of include/ch11.h.
@@ -211,23 +211,29 @@ pub fn added_words(answer: EntryAdd) -> [u64; ADDED]
     }
 }
 
-// struct ch11_renewed: the reader's refusal, by which an entry is dropped, stands behind `lives`.
-pub fn renewed_words(answer: EntryRenewal) -> [u64; RENEWED]
-    ensures { λ r. ⌜ r ≡ renewedWords (renewTold answer) ⌝ }
+// struct ch11_renewed of an entry that lives on. Apart from the others: a struct made of all three would be copied.
+pub fn lives_words() -> [u64; RENEWED]
+    ensures { λ r. ⌜ r ≡ renewedWords (renewTold Lives) ⌝ }
 {
     let mut words = [0; RENEWED];
-    match answer {
-        EntryRenewal::Lives => {
-            words[REFUSAL] = 1;
-            words
-        }
-        EntryRenewal::Dropped(f) => {
-            put_refusal(&mut words[REFUSAL + 1..RENEWED], f);
-            words
-        }
-        EntryRenewal::Unrenewed(f) => {
-            put_refusal(&mut words, f);
-            words
-        }
-    }
+    words[REFUSAL] = 1;
+    words
+}
+
+// struct ch11_renewed of an entry that is dropped: the reader's refusal, or none, stands last.
+pub fn dropped_words(f: Refusal) -> [u64; RENEWED]
+    ensures { λ r. ⌜ r ≡ renewedWords (renewTold (Dropped f)) ⌝ }
+{
+    let mut words = [0; RENEWED];
+    put_refusal(&mut words[REFUSAL + 1..RENEWED], f);
+    words
+}
+
+// struct ch11_renewed of a refusal.
+pub fn unrenewed_words(f: Refusal) -> [u64; RENEWED]
+    ensures { λ r. ⌜ r ≡ renewedWords (renewTold (Unrenewed f)) ⌝ }
+{
+    let mut words = [0; RENEWED];
+    put_refusal(&mut words, f);
+    words
 }

@@ -86,13 +86,30 @@ pub fn put64(s: &mut [u8], at: usize, v: u64)
     put32(s, at + 4, (v / 0x1_0000_0000 % 0x1_0000_0000) as u32);
 }
 
-// Copies src over dst from `at` on.
-pub fn copy_at(dst: &mut [u8], at: usize, src: &[u8])
+// Copies src over dst from `at` on, byte by byte.
+fn copy_bytes(dst: &mut [u8], at: usize, src: &[u8])
     requires { ⌜ at + length (now src) ≤ length (now dst) ⌝ }
     ensures { λ _. ⌜ now (dst .exit) ≡ splice (now (dst .entry)) at (now (src .entry)) ⌝ }
 {
     for i in 0..src.len() {
         dst[at + i] = src[i];
+    }
+}
+
+// Copies src over dst from `at` on: whole lines of 32, and where bytes are left over the last 32, some of them again.
+pub fn copy_at(dst: &mut [u8], at: usize, src: &[u8])
+    requires { ⌜ at + length (now src) ≤ length (now dst) ⌝ }
+    ensures { λ _. ⌜ now (dst .exit) ≡ splice (now (dst .entry)) at (now (src .entry)) ⌝ }
+{
+    let n = src.len();
+    if n < 32 {
+        copy_bytes(dst, at, src);
+        return;
+    }
+    let lines = n - n % 32;
+    copy_bytes(dst, at, &src[0..lines]);
+    if lines != n {
+        copy_bytes(dst, at + (n - 32), &src[n - 32..n]);
     }
 }
 
@@ -131,8 +148,8 @@ pub fn all_zero(s: &[u8]) -> bool
     true
 }
 
-// Whether two runs of bytes are equal. It looks at all of them: sixteen at a time are faster than a stop at the first that differs.
-pub fn equal(a: &[u8], b: &[u8]) -> bool
+// Whether two runs of bytes are equal, byte by byte to the end: sixteen at a time are faster than a stop at the first that differs.
+fn equal_bytes(a: &[u8], b: &[u8]) -> bool
     requires { ⌜ length (now a) ≡ length (now b) ⌝ }
     ensures { λ r. ⌜ r ≡ same (now (a .entry)) (now (b .entry)) ⌝ }
 {
@@ -141,6 +158,24 @@ pub fn equal(a: &[u8], b: &[u8]) -> bool
         e = e & (a[i] == b[i]);
     }
     e
+}
+
+// Whether two runs of bytes are equal: whole lines of 32, and where bytes are left over the last 32, some of them again, so that no
+// byte is looked at by itself.
+pub fn equal(a: &[u8], b: &[u8]) -> bool
+    requires { ⌜ length (now a) ≡ length (now b) ⌝ }
+    ensures { λ r. ⌜ r ≡ same (now (a .entry)) (now (b .entry)) ⌝ }
+{
+    let n = a.len();
+    if n < 32 {
+        return equal_bytes(a, b);
+    }
+    let lines = n - n % 32;
+    let front = equal_bytes(&a[0..lines], &b[0..lines]);
+    if lines == n {
+        return front;
+    }
+    front & equal_bytes(&a[n - 32..n], &b[n - 32..n])
 }
 
 // The sum of the first n units of 1 byte, modulo 2^8.

@@ -1,45 +1,43 @@
-use mathlib.Core.Path.{_≡_, refl}
-use mathlib.Core.Bool.{_&&_}
-use Prim.Native.Nat.{_-_, _≤_}
+use Prim.Native.Nat.{_-_, _%_}
 use native.Mathlib.Omega.{arith}
-use lib.ListN.{length, drop}
-use Rattle.units.specs.Units.{same}
-use Rattle.units.proofs.Sames.{same-next, same-end}
+use lib.ListN.{length}
+use borrow.Author.Needs.{needs}
+use Rattle.units.proofs.Sames.{same-whole, same-over}
 use Rattle.units.proofs.equal.Statement.{statement}
 use Rattle.units.proofs.equal.Tie as tie
 
-abbrev Inv-loop : tie.InvT-loop
-Inv-loop a b e₀ i₀ i-end e i = (i ≤ length a) × ((e && same (drop i a) (drop i b)) ≡ same a b)
+returns-2 : tie.Need-returns-2
+returns-2 c =
+    let called = c .before .before .before .before .before .before .before in
+    same-whole _ _ (called .pre) _ _ (c .if2 .taken) (c .before .equal-bytes2 .ensures)
 
-abbrev μ-loop : tie.MeasureT-loop
-μ-loop a b e₀ i₀ i-end e i = length a - i
-
-loop-holds : tie.Need-loop-holds Inv-loop μ-loop
-loop-holds c = (omega arith, refl)
-
-loop-again : tie.Need-loop-again Inv-loop μ-loop
-loop-again c =
-    let s = c .before .before .before .before in
-    let l = c .before .before .before .loop in
-    let h = c .before .before .loop-test .taken in
-    (omega arith, same-next (s .args .a .now) (s .args .b .now) (s .pre) (l .e) (l .i) h (l .inv .1))
-
-returns : tie.Need-returns Inv-loop μ-loop
-returns c =
-    let s = c .before .before in
-    let l = c .before .loop in
-    same-end (s .args .a .now) (s .args .b .now) (s .pre) (l .e) (l .i) (c .loop-test .left) (l .inv .1)
+returns-3 : tie.Need-returns-3
+returns-3 c =
+    let front = c .before .before .before .before in
+    let called = front .before .before .before .before .before .before in
+    let n = length (called .args .a .now) in
+    same-over (called .args .a .now) (called .args .b .now) (called .pre) (n - n % 32) 32 _ _ (front .before .before .before .if1 .left) (omega arith) (front .equal-bytes2 .ensures) (c .equal-bytes3 .ensures)
 
 pub equal-spec : {M : Type 1} → statement M
 equal-spec =
     tie.close
     (tie.spec
-    Inv-loop
-    μ-loop
-    loop-holds
-    (λ c. omega arith)
-    (λ c. omega arith)
-    (λ c. omega arith)
-    (λ c. omega arith)
-    loop-again
-    returns)
+    (λ c κs. search needs)
+    (λ c. search needs)
+    (λ c. search needs)
+    (λ c. search needs)
+    (λ c. search needs)
+    (λ c. search needs)
+    (λ c. search needs)
+    (λ c. search needs)
+    (λ c. search needs)
+    (λ c κs. search needs)
+    returns-2
+    (λ c. search needs)
+    (λ c. search needs)
+    (λ c. search needs)
+    (λ c. search needs)
+    (λ c. search needs)
+    (λ c. search needs)
+    (λ c κs. search needs)
+    returns-3)
