@@ -6,10 +6,10 @@ use native.Mathlib.Omega.{arith}
 use native.Mathlib.Nat.{add-zero}
 use native.Mathlib.Numerals.{add-one}
 use lib.ListN.{length, take, drop, getD, set, replicate, length-append, length-drop, take-append-drop, length-replicate, replicate-append-replicate}
-use lib.Seq.{paste, paste-suc, length-paste-head, take-length, sets, sets-eq, length-take-le, drop-drop, take-add, take-at, drop-at, set-append-left, take-set-lt, drop-set-lt}
+use lib.Seq.{paste, paste-suc, length-paste-head, take-length, sets, sets-eq, length-take-le, drop-drop, take-at, drop-at, set-append-left, take-set-lt, drop-set-lt}
 use Rattle.units.specs.Units.{part, bytesOf, splice}
 use Rattle.units.proofs.Numbers.{length-bytesOf, bytesOf-add, bytesOf-mod}
-use Rattle.units.proofs.Parts.{length-part, part-front}
+use Rattle.units.proofs.Parts.{part-front}
 
 -- what is written, and what stands before and behind it
 module _ (bs : List ℕ) (at : ℕ) (vs : List ℕ) (fits : at + length vs ≤ length bs) where
@@ -122,50 +122,3 @@ one-more d e at m n v is k fits =
     let g : length e ≡ length d = rw is (length-splice d at (replicate m v) (omega arith)) in
     chain d e (set e (at + m) v) at (at + m) (replicate m v) (replicate 1 v) is (sets-eq (replicate 1 v) e (at + m) (omega arith)) (omega arith) (omega arith)
     ∙ rw (k, replicate-append-replicate) refl
-
--- ---- a write over another one, and a run that is written in two pieces that share bytes
-
-pub splice-over : (f : List ℕ) (p : ℕ) (z y : List ℕ) → p + length z ≤ length f → length z ≤ length y → splice (splice f p z) p y ≡ splice f p y
-splice-over f p z y fits covers =
-    let n = p + length z in
-    let more : n + (length y - length z) ≡ p + length y = omega arith in
-    let behind : (l : List ℕ) → drop (length y - length z) (drop n l) ≡ drop (p + length y) l
-    = λ l. drop-drop (length y - length z) n l ∙ ap (λ (m : ℕ). drop m l) more in
-    let front : take p (splice f p z) ≡ take p f = part-splice-before f p z fits 0 p (omega arith) in
-    let back : drop (p + length y) (splice f p z) ≡ drop (p + length y) f
-    = sym (behind (splice f p z)) ∙ ap (drop (length y - length z)) (drop-splice f p z fits) ∙ behind f in
-    rw (front, back) refl
-
--- m bytes of the front, and the last k
-pub splice-pieces : (d : List ℕ) (at : ℕ) (s : List ℕ) (m k : ℕ) → at + length s ≤ length d → k ≤ length s → length s - k ≤ m → m ≤ length s
-    → splice (splice d at (take m s)) (at + (length s - k)) (drop (length s - k) s) ≡ splice d at s
-splice-pieces d at s m k fits has meet within =
-    let j = length s - k in
-    let first = take j s in
-    let shared = part s j (m - j) in
-    let long : length first ≡ j = length-take-le j s (omega arith) in
-    let short : length shared ≡ m - j = length-part s j (m - j) (omega arith) in
-    let last : length (drop j s) ≡ k = simp length-drop (omega arith) in
-    let start : at + j ≡ at + length first = omega (arith, long) in
-    let whole : j + (m - j) ≡ m = omega arith in
-    let cut : take m s ≡ first ++ shared = ap (λ (n : ℕ). take n s) (sym whole) ∙ take-add j (m - j) s in
-    let f = splice d at first in
-    let f-long : length f ≡ length d = length-splice d at first (omega (arith, long)) in
-    ap (λ (l : List ℕ). splice (splice d at l) (at + j) (drop j s)) cut
-    ∙ ap (λ (l : List ℕ). splice l (at + j) (drop j s)) (sym (splice-splice d at first (omega (arith, long)) (at + j) shared start (omega (arith, short))))
-    ∙ splice-over f (at + j) shared (drop j s) (omega (arith, short, f-long)) (omega (arith, short, last))
-    ∙ splice-splice d at first (omega (arith, long)) (at + j) (drop j s) start (omega (arith, last))
-    ∙ ap (splice d at) (take-append-drop j s)
-
--- the code's parts of s
-module _ (d e : List ℕ) (at : ℕ) (s : List ℕ) (m : ℕ) (is : e ≡ splice d at (part s 0 (m - 0))) where
-  pub piece-whole : m ≡ length s → e ≡ splice d at s
-  piece-whole whole = let n : m - 0 ≡ length s = omega arith in is ∙ ap (splice d at) (rw n (take-length s))
-
-  pub pieces-whole : (f : List ℕ) (k : ℕ) → at + length s ≤ length d → k ≤ length s → length s - k ≤ m → m ≤ length s
-      → f ≡ splice e (at + (length s - k)) (part s (length s - k) (length s - (length s - k))) → f ≡ splice d at s
-  pieces-whole f k fits has meet within after =
-      let zero′ : m - 0 ≡ m = omega arith in
-      let n : length s - (length s - k) ≡ length (drop (length s - k) s) = simp length-drop (omega arith) in
-      let last : part s (length s - k) (length s - (length s - k)) ≡ drop (length s - k) s = rw n (take-length (drop (length s - k) s)) in
-      after ∙ rw (is, zero′, last) (splice-pieces d at s m k fits has meet within)

@@ -86,30 +86,13 @@ pub fn put64(s: &mut [u8], at: usize, v: u64)
     put32(s, at + 4, (v / 0x1_0000_0000 % 0x1_0000_0000) as u32);
 }
 
-// Copies src over dst from `at` on, byte by byte.
-fn copy_bytes(dst: &mut [u8], at: usize, src: &[u8])
+// Copies src over dst from `at` on.
+pub fn copy_at(dst: &mut [u8], at: usize, src: &[u8])
     requires { ⌜ at + length (now src) ≤ length (now dst) ⌝ }
     ensures { λ _. ⌜ now (dst .exit) ≡ splice (now (dst .entry)) at (now (src .entry)) ⌝ }
 {
     for i in 0..src.len() {
         dst[at + i] = src[i];
-    }
-}
-
-// Copies src over dst from `at` on: whole lines of 32, and where bytes are left over the last 32, some of them again.
-pub fn copy_at(dst: &mut [u8], at: usize, src: &[u8])
-    requires { ⌜ at + length (now src) ≤ length (now dst) ⌝ }
-    ensures { λ _. ⌜ now (dst .exit) ≡ splice (now (dst .entry)) at (now (src .entry)) ⌝ }
-{
-    let n = src.len();
-    if n < 32 {
-        copy_bytes(dst, at, src);
-        return;
-    }
-    let lines = n - n % 32;
-    copy_bytes(dst, at, &src[0..lines]);
-    if lines != n {
-        copy_bytes(dst, at + (n - 32), &src[n - 32..n]);
     }
 }
 
