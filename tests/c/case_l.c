@@ -10,7 +10,9 @@
 
 _Static_assert(sizeof(size_t) == 8, "the library is for x86-64");
 _Static_assert(CH11_STATE == 1 && CH11_DATA_SUM == 13 && CH11_ROOM == 16 && CH11_RANGE == 17, "names of refusals");
+_Static_assert(CH11_FULL == 19 && CH11_NO_ENTRY == 20 && CH11_LONG == 21, "names of the table's refusals");
 _Static_assert(CH11_REASON_CHANNEL_WORD == 1 && CH11_REASON_PAD == 5 && CH11_REASON_MISSING == 7, "names of reasons");
+_Static_assert(CH11_SLOTS == 64 && CH11_SLOT_BYTES == 1024 && CH11_STORE_BYTES == 64 * 1024, "sizes of table and store");
 
 /* ---- a recording of the packets */
 
@@ -82,12 +84,19 @@ static void check_untouched(const char *call, const uint8_t *bytes, size_t len)
         enum { cases = cases_of_##kind }; \
         uint64_t size = 0;
 
-/* The table has a value of the field for each case, and the field stands where the one before it ends. */
-#define FIELD(name, ...) \
+/* The table has a value for each case. */
+#define VALUES(name, ...) \
         static const uint64_t name[] = {__VA_ARGS__}; \
-        _Static_assert(sizeof name == cases * sizeof(uint64_t), #name " in each case"); \
-        check(call, of, #name " by its place", (uint64_t)((const char *)&got->name - (const char *)got), size); \
-        size += sizeof got->name;
+        _Static_assert(sizeof name == cases * sizeof(uint64_t), #name " in each case");
+
+/* The field stands where the one before it ends. */
+#define PLACED(field) \
+        check(call, of, #field " by its place", (uint64_t)((const char *)&got->field - (const char *)got), size); \
+        size += sizeof got->field;
+
+#define FIELD(name, ...) \
+        VALUES(name, __VA_ARGS__) \
+        PLACED(name)
 
 #define WORD(name, ...) \
         FIELD(name, __VA_ARGS__) \
@@ -97,6 +106,13 @@ static void check_untouched(const char *call, const uint8_t *bytes, size_t len)
 #define HOLDS(name, kind, ...) \
         FIELD(name, __VA_ARGS__) \
         check_##kind(call, #name ".", &got->name, name[number_of_case]);
+
+#define SLOTS(first, behind, kind, ...) \
+        VALUES(slots_##first, __VA_ARGS__) \
+        for (size_t k = first; k < behind; k++) { \
+            PLACED(slots[k]) \
+            check_##kind(call, "slots from " #first " on: ", &got->slots[k], slots_##first[number_of_case]); \
+        }
 
 #define END \
         check(call, of, "size", sizeof *got, size); \
@@ -224,6 +240,136 @@ static void build_body_of_m(void)
     check_untouched("refused steps", other, 40);
 }
 
+/* ---- the renewal table */
+
+/* The store is longer than it must be, and at first 0xEE; beside it the bytes that it must hold. */
+enum { STORE = CH11_STORE_BYTES + 8, LONG_AT = 7, LONG_LENGTH = CH11_SLOT_BYTES + 4, LONG = LONG_AT + LONG_LENGTH };
+static struct ch11_table table;
+static uint8_t store[STORE], want_store[STORE], too_long_packet[LONG];
+
+/* Two recordings, and where the packet that is too long stands in the first. */
+static const uint64_t FIRST = 7, SECOND = 0xFEDCBA9876543210, LONG_BASE = 0x123456789A;
+
+/* The store must now hold these bytes at the slot's beginning. */
+static void want_in_slot(size_t slot, const uint8_t *bytes, size_t len)
+{
+    memcpy(want_store + slot * CH11_SLOT_BYTES, bytes, len);
+}
+
+/* Makes a call on table and store, and holds both to what they must be then, the table to one of its cases. */
+#define KEEP(kind, name, then, call, ...) \
+    do { \
+        struct ch11_##kind answer; \
+        ANSWER(kind, name, answer, call(&table, store, __VA_ARGS__, &answer)); \
+        check_table(#name, "", &table, then); \
+        check_bytes(#name, store, want_store, STORE); \
+    } while (0)
+#define KEEP_ADD(name, then, ...) KEEP(added, name, then, ch11_renewal_add, __VA_ARGS__)
+#define KEEP_RENEW(name, then, ...) KEEP(renewed, name, then, ch11_renewal_renew, __VA_ARGS__)
+
+static void add_entries(void)
+{
+    memset(store, 0xEE, STORE);
+    memset(want_store, 0xEE, STORE);
+    make_carried(too_long_packet + LONG_AT, LONG_LENGTH);
+    KEEP_ADD(unadded_no_store, table_empty, CH11_STORE_BYTES - 1, SECOND, M_BASE, recording, RECORDING, M_AT, FILLED);
+    want_in_slot(0, L, sizeof L);
+    KEEP_ADD(added_l, table_l, STORE, FIRST, L_BASE, L, 40, 0, 40);
+    want_in_slot(1, M, sizeof M);
+    KEEP_ADD(added_m, table_m, CH11_STORE_BYTES, SECOND, M_BASE, recording, RECORDING, M_AT, FILLED);
+    want_in_slot(2, L, sizeof L);
+    KEEP_ADD(added_5040, table_three, STORE, FIRST, FAULTY_AT_BASE, recording, RECORDING, 180, FILLED);
+    KEEP_ADD(unadded_faulty, table_three, STORE, FIRST, FAULTY_AT_BASE, faulty, FAULTY, FAULTY_AT, FAULTY);
+    KEEP_ADD(unadded_too_far, table_three, STORE, FIRST, TOO_FAR, recording, RECORDING, FILLED, RECORDING);
+    KEEP_ADD(unadded_too_long, table_three, STORE, FIRST, LONG_BASE, too_long_packet, LONG, LONG_AT, LONG);
+}
+
+/* Of the name that isn't held the first recording has entries, and the second has one at that place. */
+static void renew_entries(void)
+{
+    KEEP_RENEW(unrenewed_no_store, table_three, CH11_STORE_BYTES - 1, SECOND, M_BASE, recording, RECORDING, M_AT, FILLED);
+    KEEP_RENEW(unrenewed_no_entry, table_three, STORE, FIRST, M_BASE, recording, RECORDING, M_AT, RECORDING + 1);
+    KEEP_RENEW(unrenewed_past_end, table_three, STORE, FIRST, L_BASE, recording, RECORDING, RECORDING - 41, RECORDING);
+    KEEP_RENEW(renewed_lives, table_three, STORE, FIRST, L_BASE, L, 40, 0, 40);
+    KEEP_RENEW(renewed_lives, table_three, CH11_STORE_BYTES, SECOND, M_BASE, recording, RECORDING, M_AT, FILLED);
+}
+
+static void check_next(size_t from, size_t want)
+{
+    check("next", "", "the live slot", ch11_renewal_next(&table, from), want);
+}
+
+/* An entry is replaced in its own slot and then dropped; its slot is taken again. At last none is left. */
+static void drop_entries(void)
+{
+    want_in_slot(1, L, sizeof L);
+    KEEP_ADD(added_m, table_replaced, STORE, SECOND, M_BASE, recording, RECORDING, 180, RECORDING);
+    KEEP_RENEW(dropped_other, table_gap, STORE, SECOND, M_BASE, recording, RECORDING, M_AT, FILLED);
+    const size_t nexts[][2] = {{0, 0}, {1, 2}, {2, 2}, {3, CH11_SLOTS}, {CH11_SLOTS, CH11_SLOTS}, {SIZE_MAX, CH11_SLOTS}};
+    for (size_t k = 0; k < sizeof nexts / sizeof *nexts; k++) {
+        check_next(nexts[k][0], nexts[k][1]);
+    }
+    want_in_slot(1, M, sizeof M);
+    KEEP_ADD(added_m, table_three, STORE, SECOND, M_BASE, recording, RECORDING, M_AT, RECORDING);
+    KEEP_RENEW(dropped_other, table_gap, STORE, SECOND, M_BASE, recording, RECORDING, 180, RECORDING);
+    KEEP_RENEW(dropped_faulty, table_l, STORE, FIRST, FAULTY_AT_BASE, faulty, FAULTY, FAULTY_AT, FAULTY);
+    KEEP_RENEW(dropped_cut, table_empty, STORE, FIRST, L_BASE, L, 40, 0, 39);
+    check_next(0, CH11_SLOTS);
+}
+
+/* Adds L under a name that each slot has its own of, and gives its slot. */
+static uint64_t add_l(size_t slot)
+{
+    struct ch11_added a;
+    ch11_renewal_add(&table, store, STORE, slot, M_BASE + slot, L, 40, 0, 40, &a);
+    return a.slot;
+}
+
+/* 64 entries live: another is refused, and too long comes first; a name that is held is not, here by a packet that fills the last slot. */
+static void fill_table(void)
+{
+    struct ch11_table full;
+    struct ch11_added a;
+    uint8_t whole[CH11_SLOT_BYTES];
+    make_carried(whole, sizeof whole);
+    for (size_t slot = 0; slot < CH11_SLOTS; slot++) {
+        check("filling", "", "slot", add_l(slot), slot);
+        want_in_slot(slot, L, sizeof L);
+        check("filling", "", "recording", table.slots[slot].recording, slot);
+        check("filling", "", "place", table.slots[slot].place, M_BASE + slot);
+    }
+    memcpy(&full, &table, sizeof full);
+    ANSWER(added, unadded_full, a, ch11_renewal_add(&table, store, STORE, FIRST, M_BASE + 80, recording, RECORDING, 180, FILLED, &a));
+    ANSWER(added, unadded_too_long, a, ch11_renewal_add(&table, store, STORE, FIRST, LONG_BASE, too_long_packet, LONG, LONG_AT, LONG, &a));
+    check_bytes("unadded_full", &table, &full, sizeof full);
+    check_bytes("unadded_full", store, want_store, STORE);
+
+    want_in_slot(63, whole, sizeof whole);
+    ANSWER(added, added_last, a, ch11_renewal_add(&table, store, STORE, 63, M_BASE + 63, whole, sizeof whole, 0, sizeof whole, &a));
+    check("added_last", "", "length", table.slots[63].length, sizeof whole);
+    check_bytes("added_last", store, want_store, STORE);
+    check_next(63, 63);
+}
+
+/* The last slot's entry has a length that its slot can't; the name of slot 5 is held in slot 9 too, whose word for `live` is not 1. */
+static void forge_entries(void)
+{
+    struct ch11_renewed r;
+    table.slots[63].length = ((uint64_t)1 << 32) + sizeof L;
+    ANSWER(renewed, dropped_other, r, ch11_renewal_renew(&table, store, STORE, 63, M_BASE + 63, L, 40, 0, 40, &r));
+    check_entry("forged length", "", &table.slots[63], free_slot);
+    table.slots[9] = table.slots[5];
+    table.slots[9].live = (uint64_t)1 << 63;
+    ANSWER(renewed, dropped_other, r, ch11_renewal_renew(&table, store, STORE, 5, M_BASE + 5, recording, RECORDING, M_AT, FILLED, &r));
+    check_entry("held twice", "", &table.slots[5], free_slot);
+    check_next(9, 9);
+    check("held twice", "", "slot of a name still held", add_l(5), 9);
+    check("held twice", "", "live", table.slots[9].live, 1);
+    check("freed", "", "lowest slot", add_l(1000), 5);
+    check("freed", "", "slot behind", add_l(1001), 63);
+    check_bytes("freed", store + STORE - 8, want_store + STORE - 8, 8);
+}
+
 int main(void)
 {
     fill_recording();
@@ -235,6 +381,11 @@ int main(void)
     write_packets();
     build_body_of_l();
     build_body_of_m();
+    add_entries();
+    renew_entries();
+    drop_entries();
+    fill_table();
+    forge_entries();
     if (differences != 0) {
         return 1;
     }

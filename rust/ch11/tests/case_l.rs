@@ -3,8 +3,9 @@
 
 mod cases;
 
-use cases::{faulty, recording, shown, FAULTY_AT, FAULTY_BASE, FILLED, L, L_BASE, M, M_AT, M_BASE};
-use ch11::raw;
+use cases::{carried, faulty, recording, shown};
+use cases::{FAULTY_AT, FAULTY_BASE, FILLED, L, L_BASE, M, M_AT, M_BASE};
+use ch11::raw::{self, SLOTS, SLOT_BYTES, STORE_BYTES};
 use std::fmt::Debug;
 use std::mem::{size_of, MaybeUninit};
 
@@ -37,33 +38,65 @@ fn layout_of_every_struct() {
     check_layout::<raw::Recording>("recording_l");
     check_layout::<raw::Written>("written_l");
     check_layout::<raw::Draft>("opened_l");
+    check_layout::<raw::Entry>("entry_l");
+    check_layout::<raw::Table>("table_l");
+    check_layout::<raw::Added>("added_l");
+    check_layout::<raw::Renewed>("renewed_lives");
 }
 
-/// The names of a call's parameters, out of the list behind what declares it.
-fn parameters(text: &str, declared: &str, name: fn(&str) -> Option<&str>) -> Vec<String> {
-    let (_, rest) = text.split_once(declared).expect("it is declared");
-    let list = rest.split(')').next().unwrap_or_default().split(',');
-    let names = list.filter_map(|one| name(one.trim()));
+/// The header's type in Rust's words: `*const u8` for `const uint8_t *`.
+fn in_rust(kind: &str) -> String {
+    let (base, pointer) = match kind.trim_end().strip_suffix('*') {
+        Some(lent) => match lent.strip_prefix("const ") {
+            Some(read) => (read, "*const "),
+            None => (lent, "*mut "),
+        },
+        None => (kind, ""),
+    };
+    let named = match base.trim_end() {
+        "size_t" => "usize".to_string(),
+        number if number.starts_with("uint") => number.replace("uint", "u").replace("_t", ""),
+        named => {
+            let name = named.strip_prefix("struct ch11_").expect("a type");
+            name[..1].to_uppercase() + &name[1..]
+        }
+    };
+    format!("{pointer}{named}")
+}
+
+/// What stands behind a call's name: its parameters, as `one` makes them, up to the bracket.
+fn parameters(behind: &str, one: fn(&str) -> String) -> Vec<String> {
+    let list = behind.split(')').next().unwrap_or_default().split(',');
+    let named = list.map(str::trim).filter(|given| !given.is_empty());
+    named.map(one).collect()
+}
+
+/// A parameter of the header in Rust's words.
+fn parameter_in_rust(given: &str) -> String {
+    let (kind, name) = given.split_at(given.rfind([' ', '*']).expect("a type") + 1);
     // `type` is a word of Rust's own.
-    names.map(|name| name.replace("type", "kind")).collect()
+    format!("{}: {}", name.replace("type", "kind"), in_rust(kind))
 }
 
-/// The names stand in the same order in the header and here, where the wrapper's types hold a base
-/// apart from a place in the buffer.
+/// The parameters stand in the same order in the header and here, with the same names and types: the
+/// wrapper's types don't hold a base apart from a place in the buffer.
 #[test]
 fn parameters_of_every_call() {
     let header = include_str!("../../../include/ch11.h");
     let raw = include_str!("../src/raw.rs");
     let calls: Vec<_> = raw.split("pub fn ").skip(1).collect();
-    assert_eq!(calls.len(), 8);
-    for call in calls.into_iter().filter_map(|call| call.split('(').next()) {
-        let in_c = parameters(header, &format!("uint64_t {call}("), |one| {
-            one.rsplit([' ', '*']).next()
+    assert_eq!(calls.len(), 11);
+    for call in calls {
+        let (name, behind) = call.split_once('(').expect("parameters");
+        let (_, returned) = behind.split_once(") -> ").expect("it returns");
+        let returned = returned.split(';').next();
+        let in_c = ["uint64_t", "size_t"].into_iter().find_map(|kind| {
+            let (_, behind) = header.split_once(&format!("\n{kind} {name}("))?;
+            Some((in_rust(kind), parameters(behind, parameter_in_rust)))
         });
-        let here = parameters(raw, &format!("fn {call}("), |one| {
-            one.split_once(':').map(|(name, _)| name)
-        });
-        assert_eq!(in_c, here, "{call}");
+        let (kind, in_c) = in_c.expect("the header has it");
+        assert_eq!(Some(kind.as_str()), returned, "{name}");
+        assert_eq!(in_c, parameters(behind, str::to_string), "{name}");
     }
 }
 
@@ -209,4 +242,125 @@ fn body_of_m_built() {
     step!("add_refused", state, other => ch11_add(0, 0, b"abc".as_ptr(), 3));
     step!("close_refused", state, other[..37] => ch11_close());
     assert_eq!(other, [0xEE; 40]);
+}
+
+/// The two recordings of the entries, and where the packet stands that is too long.
+const FIRST: u64 = 7;
+const SECOND: u64 = 0xFEDC_BA98_7654_3210;
+const LONG_BASE: u64 = 0x12_3456_789A;
+
+/// A table and its store, which is longer than it must be and at first 0xEE; and the bytes that it
+/// must hold.
+struct Kept {
+    table: raw::Table,
+    store: Vec<u8>,
+    want: Vec<u8>,
+}
+
+impl Kept {
+    fn new() -> Kept {
+        let store = vec![0xEE; STORE_BYTES + 8];
+        let (table, want) = (raw::Table::default(), store.clone());
+        Kept { table, store, want }
+    }
+
+    /// The store must now hold these bytes at the slot's beginning.
+    fn want_in_slot(&mut self, slot: usize, bytes: &[u8]) {
+        self.want[slot * SLOT_BYTES..][..bytes.len()].copy_from_slice(bytes);
+    }
+
+    #[track_caller]
+    fn check(&self, table: &str) {
+        assert_eq!(format!("{:?}", self.table), shown(table, &mut |word| word));
+        assert!(self.store == self.want, "the store, {table}");
+    }
+}
+
+/// Makes a call on table and store, and holds its answer, the table and the store to what they must be.
+macro_rules! keep {
+    ($kept:ident, $case:literal, $then:literal:
+     $call:ident($len:expr, $recording:expr, $place:expr, $buf:expr, $start:expr, $end:expr)) => {
+        let (table, store, buf) = (&mut $kept.table, $kept.store.as_mut_ptr(), &$buf[..]);
+        let (at, len) = (buf.as_ptr(), buf.len());
+        answer!($case: $call(table, store, $len, $recording, $place, at, len, $start, $end));
+        $kept.check($then);
+    };
+}
+
+/// L and M are kept, and an L where `faulty()` has the one at fault now.
+fn three_entries() -> Kept {
+    let (mut kept, buf) = (Kept::new(), recording());
+    kept.want_in_slot(0, &L);
+    keep!(kept, "added_l", "table_l": ch11_renewal_add(STORE_BYTES, FIRST, L_BASE, L, 0, 40));
+    kept.want_in_slot(1, &M);
+    keep!(kept, "added_m", "table_m":
+        ch11_renewal_add(STORE_BYTES + 8, SECOND, M_BASE, buf, M_AT, FILLED));
+    kept.want_in_slot(2, &L);
+    keep!(kept, "added_5040", "table_three":
+        ch11_renewal_add(STORE_BYTES, FIRST, FAULTY_AT_BASE, buf, 180, FILLED));
+    kept
+}
+
+#[test]
+fn entries_added() {
+    let (mut kept, buf) = (Kept::new(), recording());
+    keep!(kept, "unadded_no_store", "table_empty":
+        ch11_renewal_add(STORE_BYTES - 1, SECOND, M_BASE, buf, M_AT, FILLED));
+    let mut kept = three_entries();
+    keep!(kept, "unadded_faulty", "table_three":
+        ch11_renewal_add(STORE_BYTES, FIRST, FAULTY_AT_BASE, faulty(), FAULTY_AT, 80));
+    keep!(kept, "unadded_too_far", "table_three":
+        ch11_renewal_add(STORE_BYTES, FIRST, TOO_FAR, buf, FILLED, 300));
+    let long = [vec![0xEE; 7], carried(1028)].concat();
+    keep!(kept, "unadded_too_long", "table_three":
+        ch11_renewal_add(STORE_BYTES, FIRST, LONG_BASE, long, 7, 1035));
+    kept.want_in_slot(1, &L);
+    keep!(kept, "added_m", "table_replaced":
+        ch11_renewal_add(STORE_BYTES, SECOND, M_BASE, buf, 180, 300));
+}
+
+/// Of the name that isn't held the first recording has entries, and the second has one at that place.
+#[test]
+fn entries_renewed() {
+    let (mut kept, buf) = (three_entries(), recording());
+    keep!(kept, "unrenewed_no_store", "table_three":
+        ch11_renewal_renew(STORE_BYTES - 1, SECOND, M_BASE, buf, M_AT, FILLED));
+    keep!(kept, "unrenewed_no_entry", "table_three":
+        ch11_renewal_renew(STORE_BYTES, FIRST, M_BASE, buf, M_AT, 301));
+    keep!(kept, "unrenewed_past_end", "table_three":
+        ch11_renewal_renew(STORE_BYTES, FIRST, L_BASE, buf, 300 - 41, 300));
+    keep!(kept, "renewed_lives", "table_three":
+        ch11_renewal_renew(STORE_BYTES, FIRST, L_BASE, L, 0, 40));
+    keep!(kept, "renewed_lives", "table_three":
+        ch11_renewal_renew(STORE_BYTES, SECOND, M_BASE, buf, M_AT, FILLED));
+}
+
+#[test]
+fn entries_dropped() {
+    let (mut kept, buf) = (three_entries(), recording());
+    keep!(kept, "dropped_other", "table_gap":
+        ch11_renewal_renew(STORE_BYTES, SECOND, M_BASE, buf, 180, 300));
+    for (from, next) in [(0, 0), (1, 2), (2, 2), (3, 64), (64, 64), (usize::MAX, 64)] {
+        // SAFETY: the table is lent for reading.
+        let found = unsafe { raw::ch11_renewal_next(&kept.table, from) };
+        assert_eq!(found, next, "from {from}");
+    }
+    keep!(kept, "dropped_faulty", "table_l":
+        ch11_renewal_renew(STORE_BYTES, FIRST, FAULTY_AT_BASE, faulty(), FAULTY_AT, 80));
+    keep!(kept, "dropped_cut", "table_empty":
+        ch11_renewal_renew(STORE_BYTES, FIRST, L_BASE, L, 0, 39));
+}
+
+/// The last slot is the only one that is free, and then none is.
+#[test]
+fn last_slot() {
+    let (mut kept, buf) = (Kept::new(), recording());
+    let rows = kept.table.slots.iter_mut().take(SLOTS - 1);
+    rows.for_each(|entry| entry.live = u64::MAX);
+    let (len, place) = (STORE_BYTES, M_BASE + 80);
+    let (table, store, buf) = (&mut kept.table, kept.store.as_mut_ptr(), buf.as_ptr());
+    answer!("added_last": ch11_renewal_add(table, store, len, SECOND, place, buf, 300, 180, FILLED));
+    answer!("unadded_full": ch11_renewal_add(table, store, len, FIRST, place, buf, 300, 180, FILLED));
+    kept.want_in_slot(SLOTS - 1, &L);
+    assert!(kept.store == kept.want);
 }

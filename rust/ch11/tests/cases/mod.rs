@@ -25,6 +25,16 @@ pub const M: [u8; 80] = [
     b'z', 0x00, 0x00, 0x00, 0xBD, 0xDA, 0x1E, 0xBE, // last byte, pad; filler of 2, sum of 4
 ];
 
+/// A packet of this length, over 24: channel 3, version 1, a body that is carried, no sum. The eleven
+/// words of its header add up to 0x2B29 and its two lengths.
+pub fn carried(length: u16) -> Vec<u8> {
+    let words = [0xEB25, 3, length, 0, length - 24, 0, 1, 0x4000, 0, 0, 0];
+    let sum = [0x2B29 + length + (length - 24)];
+    let header = words.iter().chain(&sum).flat_map(|word| word.to_le_bytes());
+    let body = (24..length).map(|at| 1 + (37 * u32::from(at) % 255) as u8);
+    header.chain(body).collect()
+}
+
 /// The place of M in `recording()`.
 pub const M_AT: usize = 100;
 
@@ -65,7 +75,7 @@ const TABLE: &str = include_str!("../../../../tests/fields.h");
 
 /// The struct of a case of the table as `{:?}` shows it, each of its numbers as `word` has it.
 pub fn shown(case: &str, word: &mut dyn FnMut(u64) -> u64) -> String {
-    let (mut kind, mut column, mut fields) = ("", None, Vec::new());
+    let (mut kind, mut column, mut fields, mut slots) = ("", None, Vec::new(), Vec::new());
     for line in TABLE.lines() {
         let words = line
             .split(['(', ',', ' ', ')'])
@@ -80,11 +90,17 @@ pub fn shown(case: &str, word: &mut dyn FnMut(u64) -> u64) -> String {
             (["HOLDS", name, _, values @ ..], Some(column)) => {
                 fields.push(format!("{name}: {}", shown(values[column], word)));
             }
+            (["SLOTS", first, behind, _, values @ ..], Some(column)) => {
+                slots.extend((number(first)..number(behind)).map(|_| shown(values[column], word)));
+            }
             (["END"], Some(_)) => break,
             _ => {}
         }
     }
     assert!(column.is_some(), "no case {case} in the table");
+    if !slots.is_empty() {
+        fields.push(format!("slots: [{}]", slots.join(", ")));
+    }
     let name = kind[..1].to_uppercase() + &kind[1..];
     // `type` is a word of Rust's own.
     format!("{name} {{ {} }}", fields.join(", ")).replace("type:", "kind:")
