@@ -4,7 +4,7 @@
 mod cases;
 
 use cases::{carried, faulty, recording, shown};
-use cases::{FAULTY_AT, FAULTY_BASE, FILLED, L, L_BASE, M, M_AT, M_BASE};
+use cases::{FAULTY_AT, FAULTY_BASE, FILLED, HEADER, L, L_BASE, M, M_AT, M_BASE};
 use ch11::raw::{self, SLOTS, SLOT_BYTES, STORE_BYTES};
 use std::fmt::Debug;
 use std::mem::{size_of, MaybeUninit};
@@ -82,7 +82,6 @@ fn parameter_in_rust(given: &str) -> String {
 /// wrapper's types don't hold a base apart from a place in the buffer.
 #[test]
 fn parameters_of_every_call() {
-    let header = include_str!("../../../include/ch11.h");
     let raw = include_str!("../src/raw.rs");
     let calls: Vec<_> = raw.split("pub fn ").skip(1).collect();
     assert_eq!(calls.len(), 11);
@@ -91,12 +90,26 @@ fn parameters_of_every_call() {
         let (_, returned) = behind.split_once(") -> ").expect("it returns");
         let returned = returned.split(';').next();
         let in_c = ["uint64_t", "size_t"].into_iter().find_map(|kind| {
-            let (_, behind) = header.split_once(&format!("\n{kind} {name}("))?;
+            let (_, behind) = HEADER.split_once(&format!("\n{kind} {name}("))?;
             Some((in_rust(kind), parameters(behind, parameter_in_rust)))
         });
         let (kind, in_c) = in_c.expect("the header has it");
         assert_eq!(Some(kind.as_str()), returned, "{name}");
         assert_eq!(in_c, parameters(behind, str::to_string), "{name}");
+    }
+}
+
+#[test]
+fn sizes_of_table_and_store() {
+    let sizes = [
+        ("SLOTS", SLOTS, 64),
+        ("SLOT_BYTES", SLOT_BYTES, 1024),
+        ("STORE_BYTES", STORE_BYTES, 65_536),
+    ];
+    for (name, here, want) in sizes {
+        let (_, behind) = HEADER.split_once(&format!(" CH11_{name} = ")).unwrap();
+        let in_c = behind.split(|c: char| !c.is_ascii_digit()).next();
+        assert_eq!((in_c.unwrap().parse(), here), (Ok(want), want), "{name}");
     }
 }
 

@@ -2,8 +2,12 @@
 
 mod cases;
 
-use cases::{faulty, recording, shown, FAULTY_AT, FAULTY_BASE, FILLED, L, L_BASE, M, M_AT, M_BASE};
-use ch11::{Draft, Fields, Number, Packet, Reason, Recording, Refusal, TimeRule, MESSAGE, UART};
+use cases::{carried, faulty, recording, shown};
+use cases::{FAULTY_AT, FAULTY_BASE, FILLED, HEADER, L, L_BASE, M, M_AT, M_BASE};
+use ch11::{
+    Draft, Entry, Fields, Number, Packet, Reason, Recording, Refusal, RenewalTable, Renewed,
+};
+use ch11::{TimeRule, MESSAGE, UART};
 use std::fmt::Debug;
 
 /// A refusal at these places in the buffer and in the recording; from the writer and the builder
@@ -444,10 +448,193 @@ fn empty_window_at_the_highest_base() {
     }
 }
 
+/// Two recordings of which packets are kept.
+const FIRST: u64 = 7;
+const SECOND: u64 = 0xFEDC_BA98_7654_3210;
+
+/// The entry of L under this name.
+fn entry_of_l(slot: usize, recording: u64, place: u64) -> Entry<'static> {
+    Entry {
+        slot,
+        recording,
+        place,
+        channel: 1,
+        sequence: 0,
+        rtc: 1,
+        bytes: &L,
+    }
+}
+
+const ENTRY_OF_M: Entry<'_> = Entry {
+    slot: 1,
+    recording: SECOND,
+    place: M_BASE,
+    channel: 0x1234,
+    sequence: 0xC9,
+    rtc: 0x0A0B_0C0D_0E0F,
+    bytes: &M,
+};
+
+/// L, M, and an L where `faulty()` has the one at fault now.
+fn kept() -> RenewalTable {
+    let (mut table, buf) = (RenewalTable::new(), recording());
+    assert_eq!(table.add(FIRST, L_BASE, &L, 0, 40), Ok(0));
+    assert_eq!(table.add(SECOND, M_BASE, &buf, M_AT, FILLED), Ok(1));
+    assert_eq!(table.add(FIRST, FAULTY_BASE + 40, &buf, 180, 300), Ok(2));
+    table
+}
+
+/// The entries of `kept()`.
+fn entries_kept() -> [Entry<'static>; 3] {
+    let last = entry_of_l(2, FIRST, FAULTY_BASE + 40);
+    [entry_of_l(0, FIRST, L_BASE), ENTRY_OF_M, last]
+}
+
+#[track_caller]
+fn has(table: &RenewalTable, want: &[Entry]) {
+    assert_eq!(table.entries().collect::<Vec<_>>(), want);
+}
+
+#[test]
+fn entries_of_a_table() {
+    let (mut table, want) = (kept(), entries_kept());
+    has(&table, &want);
+    assert!(table.into_iter().eq(want));
+    assert_eq!(format!("{table:?}"), format!("{want:?}"));
+    let mut entries = table.entries();
+    assert_eq!(entries.next(), Some(want[0]));
+    assert_eq!(entries.clone().count(), 2);
+    assert_eq!(entries.by_ref().last(), Some(want[2]));
+    assert!(entries.next().is_none() && entries.next().is_none());
+
+    let dropped = table.renew(SECOND, M_BASE, &L, 0, 40);
+    assert_eq!(dropped, Ok(Renewed::Dropped(None)));
+    has(&table, &[want[0], want[2]]);
+    for empty in [RenewalTable::new(), RenewalTable::default()] {
+        assert!(empty.into_iter().next().is_none());
+        assert_eq!(format!("{empty:?}"), "[]");
+    }
+}
+
+#[test]
+fn entry_replaced_in_its_own_slot() {
+    let (mut table, want) = (kept(), entries_kept());
+    let other = table.clone();
+    let dropped = table.renew(FIRST, L_BASE, &L, 0, 23);
+    let short = refusal(Number::Short, 0, L_BASE);
+    assert_eq!(dropped, Ok(Renewed::Dropped(Some(short))));
+    assert_eq!(table.add(SECOND, M_BASE, &L, 0, 40), Ok(1));
+    has(&table, &[entry_of_l(1, SECOND, M_BASE), want[2]]);
+    // The slot that is free is taken by the next name.
+    assert_eq!(table.add(SECOND, L_BASE, &L, 0, 40), Ok(0));
+    let (first, second) = (entry_of_l(0, SECOND, L_BASE), entry_of_l(1, SECOND, M_BASE));
+    has(&table, &[first, second, want[2]]);
+    has(&other, &want);
+}
+
+#[test]
+fn entries_renewed() {
+    let (mut table, want) = (kept(), entries_kept());
+    let buf = recording();
+    for _ in 0..2 {
+        let lives = table.renew(SECOND, M_BASE, &buf, M_AT, FILLED);
+        assert_eq!(lives, Ok(Renewed::Lives));
+    }
+    let unknown = refusal(Number::NoEntry, M_AT, M_BASE);
+    assert_eq!(table.renew(FIRST, M_BASE, &buf, M_AT, 301), Err(unknown));
+    let outside = refusal(Number::State, M_AT, L_BASE);
+    assert_eq!(table.renew(FIRST, L_BASE, &buf, M_AT, 301), Err(outside));
+    has(&table, &want);
+
+    let told = fault(68, FAULTY_BASE + 68, Reason::Pad);
+    let dropped = table.renew(FIRST, FAULTY_BASE + 40, &faulty(), FAULTY_AT, 80);
+    assert_eq!(dropped, Ok(Renewed::Dropped(Some(told))));
+    has(&table, &want[..2]);
+    let gone = table.renew(FIRST, FAULTY_BASE + 40, &L, 0, 40);
+    let unknown = refusal(Number::NoEntry, 0, FAULTY_BASE + 40);
+    assert_eq!(gone, Err(unknown));
+}
+
+/// A window's packet is kept or refused as the reader has it.
+#[test]
+fn adding_goes_by_the_reader() {
+    for buf in [recording(), faulty()] {
+        for (start, end) in windows(buf.len() + 1) {
+            for base in [M_BASE, highest_base(start, end)] {
+                let mut table = RenewalTable::new();
+                let added = table.add(FIRST, base, &buf, start, end);
+                let read = ch11::read_packet(&buf, start, end, base);
+                assert_eq!(added, read.map(|_| 0));
+                let want = read.map(|packet| Entry {
+                    slot: 0,
+                    recording: FIRST,
+                    place: base,
+                    channel: packet.fields.channel,
+                    sequence: packet.fields.sequence,
+                    rtc: packet.fields.rtc,
+                    bytes: &buf[start..start + packet.length],
+                });
+                assert!(table.entries().eq(want), "window {start} to {end}");
+            }
+        }
+    }
+}
+
+/// An entry lives on where the reader accepts the packet that it holds, and no other.
+#[test]
+fn renewing_goes_by_the_reader() {
+    let base = M_BASE + 80;
+    let mut table = kept();
+    for buf in [recording(), faulty()] {
+        for (start, end) in windows(buf.len() + 1) {
+            assert_eq!(table.add(SECOND, base, &L, 0, 40), Ok(3));
+            let want = match ch11::read_packet(&buf, start, end, base) {
+                Ok(packet) if buf[start..start + packet.length] == L => Ok(Renewed::Lives),
+                Ok(_) => Ok(Renewed::Dropped(None)),
+                Err(outside) if outside.number == Number::State => Err(outside),
+                Err(refused) => Ok(Renewed::Dropped(Some(refused))),
+            };
+            assert_eq!(table.renew(SECOND, base, &buf, start, end), want);
+            let left = !matches!(want, Ok(Renewed::Dropped(_)));
+            let entry = left.then(|| entry_of_l(3, SECOND, base));
+            assert!(table.entries().eq(entries_kept().into_iter().chain(entry)));
+        }
+    }
+}
+
+#[test]
+fn table_that_is_full() {
+    let (mut table, buf, long) = (RenewalTable::new(), recording(), carried(1028));
+    for slot in 0..64 {
+        let place = M_BASE + slot as u64;
+        assert_eq!(table.add(FIRST, place, &buf, 180, FILLED), Ok(slot));
+    }
+    let before = format!("{table:?}");
+    let full = refusal(Number::Full, 180, M_BASE);
+    assert_eq!(table.add(SECOND, M_BASE, &buf, 180, FILLED), Err(full));
+    let too_long = refusal(Number::Long, 0, M_BASE);
+    assert_eq!(table.add(FIRST, M_BASE, &long, 0, 1028), Err(too_long));
+    assert_eq!(format!("{table:?}"), before);
+
+    // The longest packet that a slot takes, in the last slot.
+    let longest = carried(1024);
+    assert_eq!(table.add(FIRST, M_BASE + 63, &longest, 0, 1024), Ok(63));
+    assert_eq!(
+        table.entries().last().map(|last| last.bytes),
+        Some(&longest[..])
+    );
+    for gone in [9, 5] {
+        let dropped = table.renew(FIRST, M_BASE + gone, &longest, 0, 1024);
+        assert_eq!(dropped, Ok(Renewed::Dropped(None)));
+    }
+    assert_eq!(table.entries().count(), 62);
+    assert_eq!(table.add(SECOND, M_BASE, &buf, 180, FILLED), Ok(5));
+    assert_eq!(table.add(SECOND, L_BASE, &L, 0, 40), Ok(9));
+}
+
 /// The names and numbers in one of the header's lists, whose names begin so: behind that of 0, up to its end.
 fn header_list(prefix: &str) -> Vec<(String, u64)> {
-    let header = include_str!("../../../include/ch11.h");
-    let (_, list) = header
+    let (_, list) = HEADER
         .split_once(&format!("    {prefix}NONE = 0,"))
         .unwrap();
     let entries = list.split("};").next().unwrap().split(prefix).skip(1);
@@ -463,7 +650,7 @@ fn header_list(prefix: &str) -> Vec<(String, u64)> {
 fn numbers_and_words() {
     // The header's lists: `CH11_DATA_SUM = 13` there is `DataSum` here.
     let numbers = header_list("CH11_");
-    assert_eq!(numbers.len(), 17);
+    assert_eq!(numbers.len(), 20);
     for (name, value) in numbers {
         let number = Number::from_value(value);
         assert_eq!(number.value(), value);
@@ -478,6 +665,7 @@ fn numbers_and_words() {
     }
     assert_eq!((Number::State.value(), Number::DataSum.value()), (1, 13));
     assert_eq!((Number::Room.value(), Number::Range.value()), (16, 17));
+    assert_eq!((Number::Full.value(), Number::Long.value()), (19, 21));
     assert_eq!((Reason::Time.value(), Reason::Missing.value()), (3, 7));
     assert_eq!(Number::from_value(99), Number::Other(99));
     assert_eq!(Reason::from_value(99), Reason::Other(99));
@@ -500,11 +688,11 @@ fn words_of_a_refusal() {
         ),
         (
             no_room(0, 0, 80),
-            "16 at 0: no room in a list or output (80 needed)",
+            "16 at 0: no room in a list, output or store (80 needed)",
         ),
         (
             no_room(100, M_BASE, 2),
-            "16 at 100 (700000000000 in the recording): no room in a list or output (2 needed)",
+            "16 at 100 (700000000000 in the recording): no room in a list, output or store (2 needed)",
         ),
         (
             fault(68, 68, Reason::Missing),
@@ -513,6 +701,18 @@ fn words_of_a_refusal() {
         (
             fault(68, 5068, Reason::Pad),
             "15 at 68 (5068 in the recording): body breaks its layout: pad not zero",
+        ),
+        (
+            refusal(Number::Full, 180, 180),
+            "19 at 180: 64 other entries live",
+        ),
+        (
+            refusal(Number::NoEntry, 0, 5000),
+            "20 at 0 (5000 in the recording): no such entry",
+        ),
+        (
+            refusal(Number::Long, 7, 7),
+            "21 at 7: packet over 1,024 bytes",
         ),
         (
             refusal(Number::Short, 0, u64::MAX),

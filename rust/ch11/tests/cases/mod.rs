@@ -70,6 +70,9 @@ pub const L_BASE: u64 = u64::MAX - 40;
 pub const M_BASE: u64 = 700_000_000_000;
 pub const FAULTY_BASE: u64 = 5000;
 
+/// The C header.
+pub const HEADER: &str = include_str!("../../../../include/ch11.h");
+
 /// What is expected of the structs, field by field; the table itself says how it is read.
 const TABLE: &str = include_str!("../../../../tests/fields.h");
 
