@@ -27,12 +27,15 @@ quietly bash tests/prepare.sh
 quietly rt staticlib ch11
 quietly rt check listing
 
-echo "C: every field of every call on case L"
+echo "C: every field of every call on case L; a withdrawn packet's story"
 mkdir -p target/c
-for source in tests/c/case_l.c examples/c/channels.c; do
+for source in tests/c/case_l.c tests/c/story.c examples/c/channels.c; do
     quietly $x86_cc -std=c11 -Wall -Wextra -Werror -pedantic -I include "$source" target/staticlib/libch11.a -o "target/c/$(basename "$source" .c)"
 done
 says 'case L: all fields right' $x86_runner target/c/case_l
+other='live: slot 0, place 700000000000, bytes as read'
+says "kept in slot 0 kept in slot 1 renewed: lives the buffer still holds it behind the fill withdrawn: dropped (2) $other the other: lives \
+put back: refused (20) kept in slot 1 $other live: slot 1, place 700000000080, bytes as read" $x86_runner target/c/story
 says '0 1 7 9 9 12 20' $x86_runner target/c/channels samples/flight.ch11
 says 'refused with 13 at byte 156 of the recording' bash -c "! $x86_runner target/c/channels samples/altered.ch11 2>&1 >/dev/null"
 
