@@ -120,9 +120,10 @@ static uint64_t run(struct call *call, const uint64_t words[6 + PUSHED], struct 
 /* ---- the calls */
 
 #define CALL(name) {#name, (void (*)(void))name, 0, 0}
-enum { READ, LIST, MESSAGE, RECORDING, WRITE, OPEN, ADD, CLOSE, CALLS };
-static struct call calls[CALLS] = {CALL(ch11_read_packet),  CALL(ch11_list_messages), CALL(ch11_message), CALL(ch11_read_recording),
-                                   CALL(ch11_write_packet), CALL(ch11_open),          CALL(ch11_add),     CALL(ch11_close)};
+enum { READ, LIST, MESSAGE, RECORDING, WRITE, OPEN, ADD, CLOSE, KEEP, RENEW, NEXT, CALLS };
+static struct call calls[CALLS] = {CALL(ch11_read_packet),  CALL(ch11_list_messages), CALL(ch11_message),       CALL(ch11_read_recording),
+                                   CALL(ch11_write_packet), CALL(ch11_open),          CALL(ch11_add),           CALL(ch11_close),
+                                   CALL(ch11_renewal_add),  CALL(ch11_renewal_renew), CALL(ch11_renewal_next)};
 
 #define WORDS(...) ((const uint64_t[6 + PUSHED]){__VA_ARGS__})
 #define AT(pointer) ((uint64_t)(uintptr_t)(pointer))
@@ -156,6 +157,53 @@ static void write_again(struct lent buf, const struct ch11_packet *packet)
         run(&calls[WRITE], WORDS(AT(&packet->fields), AT(body.bytes), body.length, AT(out), packet->length - less, AT(&written)), body, output);
 }
 
+/* The renewal table and its store. The first slot, which is free whenever a packet is kept here, is looked for on the stack. */
+static struct ch11_table table;
+static uint8_t store[CH11_STORE_BYTES];
+static const struct lent first_slot = {store, CH11_SLOT_BYTES};
+
+/* Keeps the packet at a window's start, in a store that is too short too. */
+static void keep(struct lent buf, size_t start, size_t end, uint64_t place)
+{
+    static struct ch11_added added;
+    for (size_t less = 0; less < 2; less++)
+        run(&calls[KEEP], WORDS(AT(&table), AT(store), CH11_STORE_BYTES - less, 7, place, AT(buf.bytes), buf.length, start, end, AT(&added)), buf, first_slot);
+}
+
+/* Renews an entry, if there is one, by a window. */
+static void renew(struct lent buf, size_t start, size_t end, uint64_t place)
+{
+    static struct ch11_renewed renewed;
+    run(&calls[RENEW], WORDS(AT(&table), AT(store), CH11_STORE_BYTES, 7, place, AT(buf.bytes), buf.length, start, end, AT(&renewed)), buf, first_slot);
+    run(&calls[NEXT], WORDS(AT(&table), 0), nothing, nothing);
+}
+
+/* Keeps a packet, renews it, and renews it by a window of this end, with a byte there altered. */
+static void withdraw(uint8_t *bytes, size_t length, size_t start, size_t end, size_t altered)
+{
+    const uint64_t far = 700000000000;
+    struct lent buf = {bytes, length};
+    keep(buf, start, length, far);
+    renew(buf, start, length, far);
+    bytes[altered] ^= 0x41;
+    renew(buf, start, end, far);
+    keep(buf, start, end, far);
+    bytes[altered] ^= 0x41;
+}
+
+/* A packet in each slot, one for which none is left, and one that is too long for a slot. */
+static void fill_table(void)
+{
+    static uint8_t carried[CH11_SLOT_BYTES + 4];
+    struct lent buf = {carried, sizeof carried};
+    memset(&table, 0, sizeof table);
+    for (uint16_t length = CH11_SLOT_BYTES - 4 * CH11_SLOTS; length <= sizeof carried; length += 4) {
+        make_carried(carried, length);
+        keep(buf, 0, length, length);
+        renew(buf, 0, length, length);
+    }
+}
+
 /* Every start, with the window to the end; and at each packet every byte of it altered, every end, and a base that is too high. */
 static void read_recording(uint8_t *bytes, size_t length)
 {
@@ -172,6 +220,8 @@ static void read_recording(uint8_t *bytes, size_t length)
             bytes[at] ^= 0x41;
             read_all(buf, start, length, far + start, &other);
             bytes[at] ^= 0x41;
+            withdraw(bytes, length, start, at, at);
+            withdraw(bytes, length, start, length, at);
         }
     }
 }
@@ -260,6 +310,7 @@ int main(int count, char **names)
         read_recording(bytes, length);
     }
     build_bodies();
+    fill_table();
     for (size_t one = 0; one < CALLS; one++) {
         printf("%s %zu\n", calls[one].name, calls[one].deepest);
         if (calls[one].copies > 0 || calls[one].deepest == 0) {
