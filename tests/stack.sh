@@ -24,7 +24,7 @@ x86_tools
 brackets=$(grep -rn --include='*.rt' '\[' crates) || fault "the source was not searched"
 arrays=$(sed -E 's/\[(u(8|16|32|64|size)|\[u64; 7\])?\]//g' <<<"$brackets" | grep -E '\[[^]]*;|[(,&:=] *\[' |
     grep -vE '^crates/(ch11|ch11_words|listing|promises)/|:const [A-Z]+: \[u8; [1-8]\] = ' |
-    grep -vE '^crates/renewal/src/(lib.rt:[0-9]+:(pub type Table = \[\[u64; 7\]; 64\];|    \[\[0(, 0){6}\]; 64\])|slots.rt:[0-9]+:    table\[k\] = \[[^];[]*\];)$' || true)
+    grep -vE '^crates/renewal/.*:(pub type Table = \[\[u64; 7\]; 64\];|    table\[k\] = \[[^][;]*\];|    \[\[0(, 0){6}\]; 64\])$' || true)
 [ -z "$arrays" ] || fault "a function below the C interface has an array of its own: $arrays"
 
 # The code: name, bytes, arguments and deepest way of each call.

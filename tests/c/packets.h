@@ -1,6 +1,6 @@
 /* The packets of the tests in C. */
+#include <stddef.h>
 #include <stdint.h>
-#include <string.h>
 
 /* Case L of document 01: a UART packet with one message, "ABC". */
 static const uint8_t L[40] = {
@@ -26,14 +26,11 @@ static const uint8_t M[80] = {
     0x7A, 0x00, 0x00, 0x00, 0xBD, 0xDA, 0x1E, 0xBE  /* last byte, pad; filler of 2, sum of 4 */
 };
 
-/* Makes a packet of this length, over 24: channel 3, version 1, a body that is carried, no sum. The eleven words of its header add up to 0x2B29 and
- * its two lengths. */
+/* Makes a packet of this length, over 24: channel 3, version 1, a body that is carried, no sum. The eleven words of its header add up to 0x2B29
+ * and its two lengths. */
 static inline void make_carried(uint8_t *out, uint16_t length)
 {
-    const uint16_t data = (uint16_t)(length - 24), sum = (uint16_t)(0x2B29 + length + data);
-    const uint8_t header[24] = {0x25, 0xEB, 3, 0, (uint8_t)length, (uint8_t)(length / 256), 0, 0, (uint8_t)data, (uint8_t)(data / 256), 0, 0, 1, 0, 0, 0x40,
-                                0,    0,    0, 0, 0,               0,                       (uint8_t)sum, (uint8_t)(sum / 256)};
-    memcpy(out, header, sizeof header);
-    for (size_t at = sizeof header; at < length; at++)
-        out[at] = (uint8_t)(1 + 37 * at % 255);
+    const size_t data = length - 24u, words[12] = {0xEB25, 3, length, 0, data, 0, 1, 0x4000, 0, 0, 0, 0x2B29 + length + data};
+    for (size_t at = 0; at < length; at++)
+        out[at] = (uint8_t)(at < 24 ? words[at / 2] >> 8 * (at % 2) : 1 + 37 * at % 255);
 }

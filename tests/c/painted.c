@@ -157,7 +157,7 @@ static void write_again(struct lent buf, const struct ch11_packet *packet)
         run(&calls[WRITE], WORDS(AT(&packet->fields), AT(body.bytes), body.length, AT(out), packet->length - less, AT(&written)), body, output);
 }
 
-/* The renewal table and its store. The first slot, which is free whenever a packet is kept here, is looked for on the stack. */
+/* The renewal table and its store, of which the first slot is looked for on the stack: packets that are withdrawn are kept there. */
 static struct ch11_table table;
 static uint8_t store[CH11_STORE_BYTES];
 static const struct lent first_slot = {store, CH11_SLOT_BYTES};
@@ -167,14 +167,14 @@ static void keep(struct lent buf, size_t start, size_t end, uint64_t place)
 {
     static struct ch11_added added;
     for (size_t less = 0; less < 2; less++)
-        run(&calls[KEEP], WORDS(AT(&table), AT(store), CH11_STORE_BYTES - less, 7, place, AT(buf.bytes), buf.length, start, end, AT(&added)), buf, first_slot);
+        run(&calls[KEEP], WORDS(AT(&table), AT(store), sizeof store - less, 7, place, AT(buf.bytes), buf.length, start, end, AT(&added)), buf, first_slot);
 }
 
 /* Renews an entry, if there is one, by a window. */
 static void renew(struct lent buf, size_t start, size_t end, uint64_t place)
 {
     static struct ch11_renewed renewed;
-    run(&calls[RENEW], WORDS(AT(&table), AT(store), CH11_STORE_BYTES, 7, place, AT(buf.bytes), buf.length, start, end, AT(&renewed)), buf, first_slot);
+    run(&calls[RENEW], WORDS(AT(&table), AT(store), sizeof store, 7, place, AT(buf.bytes), buf.length, start, end, AT(&renewed)), buf, first_slot);
     run(&calls[NEXT], WORDS(AT(&table), 0), nothing, nothing);
 }
 

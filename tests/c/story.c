@@ -1,5 +1,5 @@
-/* The story of a packet that a lab withdraws. The recording is read in pieces into one buffer, which keeps what it held behind its filled end. Prints a
- * line at each step; tests/run.sh holds the lines to what must be. */
+/* The story of a packet that a lab withdraws. The recording is read in pieces into one buffer, which keeps what it held behind its filled end.
+ * Prints a line at each step; tests/run.sh holds the lines to what must be. */
 #include <stdio.h>
 #include <string.h>
 

@@ -604,7 +604,7 @@ fn renewing_goes_by_the_reader() {
 
 #[test]
 fn table_that_is_full() {
-    let (mut table, buf, long) = (RenewalTable::new(), recording(), carried(1028));
+    let (mut table, buf, long) = (RenewalTable::default(), recording(), carried(1028));
     for slot in 0..64 {
         let place = M_BASE + slot as u64;
         assert_eq!(table.add(FIRST, place, &buf, 180, FILLED), Ok(slot));
@@ -703,6 +703,18 @@ fn words_of_a_refusal() {
             "15 at 68 (5068 in the recording): body breaks its layout: pad not zero",
         ),
         (
+            refusal(Number::Short, 0, u64::MAX),
+            "2 at 0 (18446744073709551615 in the recording): fewer than 24 bytes in the window",
+        ),
+    ] {
+        assert_eq!(refusal.to_string(), words);
+    }
+}
+
+#[test]
+fn words_of_the_tables_refusals() {
+    for (refusal, words) in [
+        (
             refusal(Number::Full, 180, 180),
             "19 at 180: 64 other entries live",
         ),
@@ -713,10 +725,6 @@ fn words_of_a_refusal() {
         (
             refusal(Number::Long, 7, 7),
             "21 at 7: packet over 1,024 bytes",
-        ),
-        (
-            refusal(Number::Short, 0, u64::MAX),
-            "2 at 0 (18446744073709551615 in the recording): fewer than 24 bytes in the window",
         ),
     ] {
         assert_eq!(refusal.to_string(), words);
