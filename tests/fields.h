@@ -101,9 +101,9 @@ SLOTS(2, 3, entry,       free_slot,   free_slot, free_slot, entry_5040,  entry_5
 SLOTS(3, 64, entry,      free_slot,   free_slot, free_slot, free_slot,   free_slot,      free_slot)
 END
 
-STRUCT(added,            added_l, added_m, added_5040, added_last, unadded_no_store, unadded_too_far, unadded_faulty, unadded_too_long, unadded_full)
-HOLDS(refusal, refusal,  none,    none,    none,       none,       short_store,      too_far,         wrong_pad,      too_long,         no_slot)
-WORD(slot,               0,       1,       2,          63,         0,                0,               0,              0,                0)
+STRUCT(added,            added_l, added_m, added_5040, added_last, unadded_no_store, unadded_too_far, unadded_cut, unadded_faulty, unadded_too_long, unadded_full)
+HOLDS(refusal, refusal,  none,    none,    none,       none,       short_store,      too_far,         cut_short,   wrong_pad,      too_long,         no_slot)
+WORD(slot,               0,       1,       2,          63,         0,                0,               0,           0,              0,                0)
 END
 
 STRUCT(renewed,          renewed_lives, dropped_other, dropped_faulty, dropped_cut, unrenewed_no_store, unrenewed_no_entry, unrenewed_past_end)

@@ -279,6 +279,7 @@ static void add_entries(void)
     KEEP_ADD(added_m, table_m, CH11_STORE_BYTES, SECOND, M_BASE, recording, RECORDING, M_AT, FILLED);
     want_in_slot(2, L, sizeof L);
     KEEP_ADD(added_5040, table_three, STORE, FIRST, FAULTY_AT_BASE, recording, RECORDING, 180, FILLED);
+    KEEP_ADD(unadded_cut, table_three, STORE, FIRST, L_BASE, L, 40, 0, 39);
     KEEP_ADD(unadded_faulty, table_three, STORE, FIRST, FAULTY_AT_BASE, faulty, FAULTY, FAULTY_AT, FAULTY);
     KEEP_ADD(unadded_too_far, table_three, STORE, FIRST, TOO_FAR, recording, RECORDING, FILLED, RECORDING);
     KEEP_ADD(unadded_too_long, table_three, STORE, FIRST, LONG_BASE, too_long_packet, LONG, LONG_AT, LONG);

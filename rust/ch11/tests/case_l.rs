@@ -320,6 +320,8 @@ fn entries_added() {
     keep!(kept, "unadded_no_store", "table_empty":
         ch11_renewal_add(STORE_BYTES - 1, SECOND, M_BASE, buf, M_AT, FILLED));
     let mut kept = three_entries();
+    keep!(kept, "unadded_cut", "table_three":
+        ch11_renewal_add(STORE_BYTES, FIRST, L_BASE, L, 0, 39));
     keep!(kept, "unadded_faulty", "table_three":
         ch11_renewal_add(STORE_BYTES, FIRST, FAULTY_AT_BASE, faulty(), FAULTY_AT, 80));
     keep!(kept, "unadded_too_far", "table_three":
