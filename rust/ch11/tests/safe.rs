@@ -613,7 +613,7 @@ fn table_that_is_full() {
     let full = refusal(Number::Full, 180, M_BASE);
     assert_eq!(table.add(SECOND, M_BASE, &buf, 180, FILLED), Err(full));
     let too_long = refusal(Number::Long, 0, M_BASE);
-    assert_eq!(table.add(FIRST, M_BASE, &long, 0, 1028), Err(too_long));
+    assert_eq!(table.add(SECOND, M_BASE, &long, 0, 1028), Err(too_long));
     assert_eq!(format!("{table:?}"), before);
 
     // The longest packet that a slot takes, in the last slot.
