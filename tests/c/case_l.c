@@ -272,7 +272,7 @@ static void add_entries(void)
     memset(store, 0xEE, STORE);
     memset(want_store, 0xEE, STORE);
     make_carried(too_long_packet + LONG_AT, LONG_LENGTH);
-    KEEP_ADD(unadded_no_store, table_empty, CH11_STORE_BYTES - 1, SECOND, M_BASE, recording, RECORDING, M_AT, FILLED);
+    KEEP_ADD(unadded_no_store, table_empty, CH11_STORE_BYTES - 1, SECOND, M_BASE, recording, RECORDING, M_AT, RECORDING + 1);
     want_in_slot(0, L, sizeof L);
     KEEP_ADD(added_l, table_l, STORE, FIRST, L_BASE, L, 40, 0, 40);
     want_in_slot(1, M, sizeof M);
@@ -285,10 +285,10 @@ static void add_entries(void)
     KEEP_ADD(unadded_too_long, table_three, STORE, FIRST, LONG_BASE, too_long_packet, LONG, LONG_AT, LONG);
 }
 
-/* Of the name that isn't held the first recording has entries, and the second has one at that place. */
+/* 16 comes before 20, and 20 before 1. Of the name that isn't held the first recording has entries, and the second has one at that place. */
 static void renew_entries(void)
 {
-    KEEP_RENEW(unrenewed_no_store, table_three, CH11_STORE_BYTES - 1, SECOND, M_BASE, recording, RECORDING, M_AT, FILLED);
+    KEEP_RENEW(unrenewed_no_store, table_three, CH11_STORE_BYTES - 1, FIRST, M_BASE, recording, RECORDING, M_AT, RECORDING + 1);
     KEEP_RENEW(unrenewed_no_entry, table_three, STORE, FIRST, M_BASE, recording, RECORDING, M_AT, RECORDING + 1);
     KEEP_RENEW(unrenewed_past_end, table_three, STORE, FIRST, L_BASE, recording, RECORDING, RECORDING - 41, RECORDING);
     KEEP_RENEW(renewed_lives, table_three, STORE, FIRST, L_BASE, L, 40, 0, 40);

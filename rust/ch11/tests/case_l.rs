@@ -318,7 +318,7 @@ fn three_entries() -> Kept {
 fn entries_added() {
     let (mut kept, buf) = (Kept::new(), recording());
     keep!(kept, "unadded_no_store", "table_empty":
-        ch11_renewal_add(STORE_BYTES - 1, SECOND, M_BASE, buf, M_AT, FILLED));
+        ch11_renewal_add(STORE_BYTES - 1, SECOND, M_BASE, buf, M_AT, 301));
     let mut kept = three_entries();
     keep!(kept, "unadded_cut", "table_three":
         ch11_renewal_add(STORE_BYTES, FIRST, L_BASE, L, 0, 39));
@@ -334,12 +334,13 @@ fn entries_added() {
         ch11_renewal_add(STORE_BYTES, SECOND, M_BASE, buf, 180, 300));
 }
 
-/// Of the name that isn't held the first recording has entries, and the second has one at that place.
+/// 16 comes before 20, and 20 before 1. Of the name that isn't held the first recording has entries,
+/// and the second has one at that place.
 #[test]
 fn entries_renewed() {
     let (mut kept, buf) = (three_entries(), recording());
     keep!(kept, "unrenewed_no_store", "table_three":
-        ch11_renewal_renew(STORE_BYTES - 1, SECOND, M_BASE, buf, M_AT, FILLED));
+        ch11_renewal_renew(STORE_BYTES - 1, FIRST, M_BASE, buf, M_AT, 301));
     keep!(kept, "unrenewed_no_entry", "table_three":
         ch11_renewal_renew(STORE_BYTES, FIRST, M_BASE, buf, M_AT, 301));
     keep!(kept, "unrenewed_past_end", "table_three":
