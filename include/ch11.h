@@ -16,9 +16,9 @@
  * save that base plus window length must not pass 2^64 - 1 (refusal 1). (A message's start is counted from its packet's first byte.)
  *
  * Every result is written into a struct of 64-bit numbers, which needs no filling beforehand, save the builder's and the table. Each call
- * but ch11_renewal_next returns the refusal's number, 0 for none; the struct begins with the same number. On a refusal all other results are 0, but for its two places,
- * the room (of 16), the reason (of 15), the recording's three numbers and the builder's state; lists, buffers, outputs, tables and stores
- * are then as they were.
+ * but ch11_renewal_next returns the refusal's number, 0 for none; the struct begins with the same number. On a refusal all other results
+ * are 0, but for its two places, the room (of 16), the reason (of 15), the recording's three numbers and the builder's state; lists,
+ * buffers, outputs, tables and stores are then as they were.
  *
  * A length may be 0. Pointers must not be null, not even then; they must be aligned for their type and good for the length given, a
  * struct's for the struct. What a call may write to must not overlap anything else that the same call is lent.
@@ -272,8 +272,8 @@ struct ch11_entry {
     uint64_t rtc;
 };
 
-/* Start with all zeros: an empty table. The caller may read it, also between the calls. Any other content is taken as it is, forged or
- * not: a name held twice counts in its lowest slot, and an entry whose length is not that of a packet in its slot is dropped when renewed. */
+/* Start with all zeros: an empty table. The caller may read it between the calls. Any other content is taken as it is, forged or not: a
+ * name held twice counts in its lowest slot, and an entry whose length is over CH11_SLOT_BYTES is dropped when renewed. */
 struct ch11_table {
     struct ch11_entry slots[CH11_SLOTS];
 };
@@ -287,8 +287,8 @@ struct ch11_added {
  * already, else the lowest free one. The entry is replaced whole; of the store the packet's `length` bytes are written and no others.
  * 16 for a store under CH11_STORE_BYTES, which is the room needed, then the reader's refusals, then 21 for a packet over CH11_SLOT_BYTES,
  * then 19 where 64 other entries live. All at the window's start, but 15. */
-uint64_t ch11_renewal_add(struct ch11_table *table, uint8_t *store, size_t store_len, uint64_t recording, uint64_t place, const uint8_t *buf,
-                          size_t len, size_t start, size_t end, struct ch11_added *added);
+uint64_t ch11_renewal_add(struct ch11_table *table, uint8_t *store, size_t store_len, uint64_t recording, uint64_t place,
+                          const uint8_t *buf, size_t len, size_t start, size_t end, struct ch11_added *added);
 
 struct ch11_renewed {
     struct ch11_refusal refusal; /* of the call; an entry that is dropped is no refusal */
