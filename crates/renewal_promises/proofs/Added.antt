@@ -226,7 +226,7 @@ module _ (t : Rows) (all : length t ≡ 64) (store : List ℕ) (recording place 
   told-full _ (full _ q other short h) p c none = refl
   told-full _ (goes _ q other short h) p c none = absurd (omega (arith, none))
 
-  told-slot : (r : EntryAdd) → Goes r → (p : Packet) → Comes t store recording place buf start end p → (k : ℕ) → (homeOf recording place t ≡ k) × (k < 64)
+  pub told-slot : (r : EntryAdd) → Goes r → (p : Packet) → Comes t store recording place buf start end p → (k : ℕ) → (homeOf recording place t ≡ k) × (k < 64)
       → addTold r ≡ addedTold noRefusal k
   told-slot _ (small h) p c k home = absurd (omega (arith, c .room))
   told-slot _ (reader _ f refused) p c k home = absurd (not-both buf start end place f p refused (accepted-is buf start end place p (c .accepted)))
@@ -277,6 +277,10 @@ module _ (t : Rows) (all : length t ≡ 64) (store : List ℕ) (recording place 
   told-answers _ (full _ p read short h) z = absurd (omega (arith, z))
   told-answers _ (goes _ p read short h) z = refl
 
+  told-refused : (r : EntryAdd) → addTold r .refusal .number ≢ 0 → r ≡ Unadded (addTold r .refusal)
+  told-refused (Added k) some = absurd (some refl)
+  told-refused (Unadded f) some = refl
+
   -- everything that is promised of it
   pub adds : (r : EntryAdd) (t′ : Rows) (store′ : List ℕ) → Add t store recording place buf start end r t′ store′ → Adding t store recording place buf start end r t′ store′
   adds r t′ store′ (is, ti, si) =
@@ -293,6 +297,7 @@ module _ (t : Rows) (all : length t ≡ 64) (store : List ℕ) (recording place 
         put = told-put r said t′ store′ ti si;
         untouched = told-untouched r t′ store′ ti si;
         answers = told-answers r said;
+        answers-refused = told-refused r;
       }
 
   -- what becomes of table and store: nothing, or the packet goes where its name is to be held

@@ -17,7 +17,7 @@ use Rattle.packet.specs.declared.PacketRead.the-variants.{Accepted}
 use Rattle.promises.specs.Handed.{Within}
 use Rattle.promises.proofs.Ends.{accepted-is}
 use Rattle.renewal.specs.Table.{slotOf, freeOf, homeOf}
-use Rattle.renewal.specs.Renewal.{addTold, renewTold}
+use Rattle.renewal.specs.Renewal.{addTold, tableRenewed, renewTold}
 use Rattle.renewal.specs.declared.EntryAdd.{EntryAdd}
 use Rattle.renewal.specs.declared.EntryRenewal.{EntryRenewal}
 use Rattle.renewal_promises.specs.Slots.{Rows, row, word, LiveAt, FreeAt, HeldAt, First, Accepts, Equals}
@@ -180,6 +180,14 @@ module _ (t : Rows) (all : length t ≡ 64) (store : List ℕ) (recording place 
       (adding.effect t all store recording place buf start end r t′ store′ call)
 
   -- ---- its renewal
+
+  pub renew-keeps : (r : EntryRenewal) (t′ : Rows) (bytes : List ℕ) → Renew t store recording place buf start end r t′ → renewTold r .lives ≡ 1
+      → Keeps t store recording place bytes → Keeps t′ store recording place bytes
+  unfolding tableRenewed
+  renew-keeps r t′ bytes call one k =
+      let lives = renewing.renews t all store recording place buf start end r t′ call .answers one in
+      let same : t′ ≡ t = call .1 ∙ rw lives in
+      subst (λ (u : Rows). Keeps u store recording place bytes) (sym same) k
 
   pub keeps-lives : (r : EntryRenewal) (t′ : Rows) (bytes : List ℕ) → Renew t store recording place buf start end r t′ → 65536 ≤ length store
       → Within buf start end place → Keeps t store recording place bytes

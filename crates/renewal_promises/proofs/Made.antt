@@ -24,7 +24,7 @@ use Rattle.renewal_promises.specs.Adding.{Put}
 use Rattle.renewal_promises.specs.Renewing.{Drops}
 use Rattle.renewal_promises.specs.Calls.{Add, Renew}
 use Rattle.renewal_promises.specs.Keeping.{Made, empty, added, renewed}
-use Rattle.renewal_promises.proofs.Finding.{slot-held, slot-none, home-own, home-free}
+use Rattle.renewal_promises.proofs.Finding.{slot-held, slot-none, held-slot, home-own, home-free}
 use Rattle.renewal_promises.proofs.Added as adding
 use Rattle.renewal_promises.proofs.Renewed as renewing
 
@@ -159,3 +159,14 @@ module _ (t : Rows) (made : Made t) (store : List ℕ) (recording place : ℕ) (
       go : (b : Bool) → ltb (slotOf recording place t) 64 ≡ b → (k : ℕ) → ¬ HeldAt t′ recording place k
       go true h = gone-held (ltb-true (slotOf recording place t) 64 h)
       go false h = gone-none (ltb-false (slotOf recording place t) 64 h)
+
+-- ---- of a name held twice the other entry stays
+
+pub second : (t : Rows) → length t ≡ 64 → (store : List ℕ) (recording place : ℕ) (buf : List ℕ) (start end : ℕ) (r : EntryRenewal) (t′ : Rows)
+    → Renew t store recording place buf start end r t′
+    → (k : ℕ) → First (HeldAt t recording place) k → (j : ℕ) → j ≢ k → HeldAt t recording place j → HeldAt t′ recording place j
+second t all store recording place buf start end r t′ call k first j other held =
+    ⊎-elim
+    (λ kept. subst (λ (u : Rows). HeldAt u recording place j) (sym kept) held)
+    (λ d. held-row t′ t recording place j (sym (d .drops .others j (λ is. other (is ∙ held-slot t all recording place k first)))) held)
+    (renewing.effect t all store recording place buf start end r t′ call)

@@ -187,6 +187,11 @@ module _ (t : Rows) (all : length t ≡ 64) (store : List ℕ) (recording place 
   told-dropped _ (lives room slot i p read h) z not-one = absurd (not-one refl)
   told-dropped _ (differs room slot i p read h) z not-one = refl
 
+  told-refused : (r : EntryRenewal) → renewTold r .refusal .number ≢ 0 → r ≡ Unrenewed (renewTold r .refusal)
+  told-refused Lives some = absurd (some refl)
+  told-refused (Dropped f) some = absurd (some refl)
+  told-refused (Unrenewed f) some = refl
+
   -- ---- the judgement
 
   drops : (k : ℕ) → k < 64 → Drops t k (set t k noEntry)
@@ -266,6 +271,7 @@ module _ (t : Rows) (all : length t ≡ 64) (store : List ℕ) (recording place 
         untouched = told-untouched r t′ ti;
         answers = told-lives r;
         answers-dropped = told-dropped r said;
+        answers-refused = told-refused r;
       }
 
   -- what becomes of the table: nothing, or the entry of the name is dropped

@@ -2,7 +2,7 @@
 use mathlib.Core.Path.{_≡_, refl, sym, ap, subst, _∙_}
 use mathlib.Core.List.{List}
 use mathlib.Core.Bool.{Bool, true, false}
-use mathlib.Core.Logic.{_≢_}
+use mathlib.Core.Logic.{⊎-elim, _≢_}
 use Prim.Native.Nat.{ℕ, _+_, _-_, _*_, _≤_, _<_}
 use native.Mathlib.Omega.{arith}
 use lib.ListN.{length, take, set}
@@ -20,16 +20,18 @@ use Rattle.promises.specs.Endings.{refusedThere}
 use Rattle.promises.specs.Handed.{Within}
 use Rattle.promises.proofs.HandedOut.{within-inside}
 use Rattle.promises.proofs.Ends.{accepted-is}
-use Rattle.renewal.specs.Table.{noEntry, slotOf}
-use Rattle.renewal.specs.Renewal.{addEntry, entryIn, ownBytes, tableAdded, storeAdded, renewEntry, tableRenewed, RenewTold, renewTold}
+use Rattle.renewal.specs.Table.{noEntry, slotOf, homeOf}
+use Rattle.renewal.specs.Renewal.{addEntry, entryIn, ownBytes, tableAdded, storeAdded, AddTold, addTold, renewEntry, tableRenewed, RenewTold, renewTold}
 use Rattle.renewal.specs.declared.EntryAdd.{EntryAdd}
+use Rattle.renewal.specs.declared.EntryAdd.the-variants.{Added, Unadded}
 use Rattle.renewal.specs.declared.EntryRenewal.{EntryRenewal}
 use Rattle.renewal.specs.declared.EntryRenewal.the-variants.{Dropped}
 use Rattle.renewal_promises.specs.Slots.{Rows, HeldAt, First, Equals}
-use Rattle.renewal_promises.specs.Adding.{smallStore}
+use Rattle.renewal_promises.specs.Adding.{smallStore, Comes}
 use Rattle.renewal_promises.specs.Renewing.{refusedTold, Judged, Renewing}
 use Rattle.renewal_promises.specs.Calls.{Add, Renew}
 use Rattle.renewal_promises.proofs.Finding.{slot-held, slot-none}
+use Rattle.renewal_promises.proofs.Added as adding
 use Rattle.renewal_promises.proofs.Added.{own-bytes, told-accepted}
 use Rattle.renewal_promises.proofs.Renewed.{renews}
 
@@ -141,3 +143,44 @@ module _ (t : Rows) (all : length t ≡ 64) (store : List ℕ) (recording place 
           let none = slot-none t all recording place (ltb-false (slotOf recording place t) 64 l) in
           both-refused (refusedThere 20 s place) (refusedThere 20 s′ place) (λ (z : _≡_ {A = ℕ} 20 0). omega arith) (λ (z : _≡_ {A = ℕ} 20 0). omega arith)
           (renews t all store recording place a s e r t₁ call-a .absent room none) (renews t all store recording place b s′ e′ q t₂ call-b .absent room none)
+
+-- ---- adding them
+
+-- where the packet stands in its buffer has no say in its entry
+entry-elsewhere : (recording place : ℕ) (a b : List ℕ) (s e s′ e′ : ℕ) → window a s e ≡ window b s′ e′ → entryIn recording place a s e ≡ entryIn recording place b s′ e′
+unfolding packetIn
+entry-elsewhere recording place a b s e s′ e′ same = rw same
+
+module _ (t : Rows) (all : length t ≡ 64) (store : List ℕ) (recording place : ℕ) where
+  -- what one window is refused for the other is too
+  only-one : (a b : List ℕ) (s e s′ e′ : ℕ) → Within a s e place → window b s′ e′ ≡ window a s e → (r q : EntryAdd) (t₁ t₂ : Rows) (store₁ store₂ : List ℕ)
+      → Add t store recording place a s e r t₁ store₁ → addTold r .refusal .number ≢ 0 → adding.PutHome t all store recording place b s′ e′ q t₂ store₂ → ⊥
+  only-one a b s e s′ e′ in-a same r q t₁ t₂ store₁ store₂ (is, ti, si) some put =
+      let there = read-elsewhere b a s′ e′ s e place in-a same (put .packet) (put .read) in
+      let said : adding.Way t store recording place a s e r = rw is (adding.way t store recording place a s e) in
+      let comes : Comes t store recording place a s e (there .0) = record { room = put .room; accepted = told-accepted a s e place (there .0) (there .1); short = omega (arith, there .2, put .short) } in
+      some (ap (λ (x : AddTold). x .refusal .number) (adding.told-slot t all store recording place a s e r said (there .0) comes (homeOf recording place t) (refl, put .slot)))
+
+  refused-slot : (r : EntryAdd) → addTold r .refusal .number ≢ 0 → addTold r .slot ≡ 0
+  refused-slot (Added k) some = absurd (some refl)
+  refused-slot (Unadded f) some = refl
+
+  module _ (a b : List ℕ) (s e s′ e′ : ℕ) (in-a : Within a s e place) (in-b : Within b s′ e′ place) (same : window a s e ≡ window b s′ e′) (r q : EntryAdd) (t₁ t₂ : Rows)
+      (store₁ store₂ : List ℕ) (call-a : Add t store recording place a s e r t₁ store₁) (call-b : Add t store recording place b s′ e′ q t₂ store₂) where
+    pub add-elsewhere : (addTold r .slot ≡ addTold q .slot) × (t₁ ≡ t₂) × (store₁ ≡ store₂)
+    add-elsewhere =
+        ⊎-elim
+        (λ ka. ⊎-elim
+        (λ kb. (refused-slot r (ka .2) ∙ sym (refused-slot q (kb .2)), ka .0 ∙ sym (kb .0), ka .1 ∙ sym (kb .1)))
+        (λ pb. absurd (only-one a b s e s′ e′ in-a (sym same) r q t₁ t₂ store₁ store₂ call-a (ka .2) pb))
+        (adding.effect t all store recording place b s′ e′ q t₂ store₂ call-b))
+        (λ pa. ⊎-elim
+        (λ kb. absurd (only-one b a s′ e′ s e in-b same q r t₂ t₁ store₂ store₁ call-b (kb .2) pa))
+        (λ pb.
+        let told : r ≡ q = pa .told ∙ sym (pb .told) in (
+          ap (λ (x : EntryAdd). addTold x .slot) told,
+          call-a .1 ∙ rw (told, entry-elsewhere recording place a b s e s′ e′ same) (sym (call-b .1)),
+          call-a .2 ∙ rw (told, same) (sym (call-b .2)),
+        ))
+        (adding.effect t all store recording place b s′ e′ q t₂ store₂ call-b))
+        (adding.effect t all store recording place a s e r t₁ store₁ call-a)

@@ -14,7 +14,7 @@ use Rattle.promises.specs.Refusals.{readerRefusals}
 use Rattle.promises.specs.Endings.{Ends, refusedThere}
 use Rattle.renewal.specs.Renewal.{AddTold, addTold}
 use Rattle.renewal.specs.declared.EntryAdd.{EntryAdd}
-use Rattle.renewal.specs.declared.EntryAdd.the-variants.{Added}
+use Rattle.renewal.specs.declared.EntryAdd.the-variants.{Added, Unadded}
 use Rattle.renewal_promises.specs.Slots.{Rows, row, LiveAt, FreeAt, HeldAt, First, Accepts}
 
 -- "16 first, ..; adding, then the reader's, 21 .., 19 .."
@@ -75,3 +75,4 @@ module _ (t : Rows) (store : List ℕ) (recording place : ℕ) (buf : List ℕ) 
     pub untouched : addTold r .refusal .number ≢ 0 → (t′ ≡ t) × (store′ ≡ store)
     -- the case of the enum is the one that is told
     pub answers : addTold r .refusal .number ≡ 0 → r ≡ Added (addTold r .slot)
+    pub answers-refused : addTold r .refusal .number ≢ 0 → r ≡ Unadded (addTold r .refusal)

@@ -39,6 +39,10 @@ pub record Renewal : Type 0 where
       → Renew t store recording place buf start end r t′ → 65536 ≤ length store → Within buf start end place
       → ((k : ℕ) → HeldAt t recording place k → ¬ Equals t store k buf start end place)
       → (k : ℕ) → ¬ HeldAt t′ recording place k
+  -- of a name held twice in a forged table the lowest entry alone is judged; the other stays
+  pub second : (t : Rows) (store : List ℕ) (recording place : ℕ) (buf : List ℕ) (start end : ℕ) (r : EntryRenewal) (t′ : Rows)
+      → length t ≡ 64 → Renew t store recording place buf start end r t′
+      → (k : ℕ) → First (HeldAt t recording place) k → (j : ℕ) → j ≢ k → HeldAt t recording place j → HeldAt t′ recording place j
   -- ---- nothing outside the window has a say
 
   -- two buffers that both reach to the end, with the same bytes from start to it
@@ -48,7 +52,11 @@ pub record Renewal : Type 0 where
   pub renew-inside : (t : Rows) (store : List ℕ) (recording place : ℕ) (a b : List ℕ) (start end : ℕ) (r q : EntryRenewal) (t₁ t₂ : Rows)
       → end ≤ length a → end ≤ length b → window a start end ≡ window b start end
       → Renew t store recording place a start end r t₁ → Renew t store recording place b start end q t₂ → (r ≡ q) × (t₁ ≡ t₂)
-  -- the same bytes elsewhere in a buffer: the same lives and the same is dropped
+  -- the same bytes elsewhere in a buffer: the same is added, in the same slot; the same lives and the same is dropped
+  pub add-elsewhere : (t : Rows) (store : List ℕ) (recording place : ℕ) (a b : List ℕ) (start end start′ end′ : ℕ) (r q : EntryAdd) (t₁ t₂ : Rows) (store₁ store₂ : List ℕ)
+      → length t ≡ 64 → Within a start end place → Within b start′ end′ place → window a start end ≡ window b start′ end′
+      → Add t store recording place a start end r t₁ store₁ → Add t store recording place b start′ end′ q t₂ store₂
+      → (addTold r .slot ≡ addTold q .slot) × (t₁ ≡ t₂) × (store₁ ≡ store₂)
   pub renew-elsewhere : (t : Rows) (store : List ℕ) (recording place : ℕ) (a b : List ℕ) (start end start′ end′ : ℕ) (r q : EntryRenewal) (t₁ t₂ : Rows)
       → length t ≡ 64 → Within a start end place → Within b start′ end′ place → window a start end ≡ window b start′ end′
       → Renew t store recording place a start end r t₁ → Renew t store recording place b start′ end′ q t₂
@@ -72,7 +80,11 @@ pub record Renewal : Type 0 where
   pub renew-keeps-others : (t : Rows) (store : List ℕ) (recording place : ℕ) (buf : List ℕ) (start end : ℕ) (r : EntryRenewal) (t′ : Rows)
       → length t ≡ 64 → Renew t store recording place buf start end r t′
       → (recording′ place′ : ℕ) (bytes : List ℕ) → Other recording place recording′ place′ → Keeps t store recording′ place′ bytes → Keeps t′ store recording′ place′ bytes
-  -- its renewal: the entry lives on exactly when the packet at the window's start is accepted and is those bytes
+  -- through its own renewal too, if it lives on
+  pub renew-keeps : (t : Rows) (store : List ℕ) (recording place : ℕ) (buf : List ℕ) (start end : ℕ) (r : EntryRenewal) (t′ : Rows) (bytes : List ℕ)
+      → length t ≡ 64 → Renew t store recording place buf start end r t′ → renewTold r .lives ≡ 1
+      → Keeps t store recording place bytes → Keeps t′ store recording place bytes
+  -- and there the entry lives on exactly when the packet at the window's start is accepted and is those bytes
   pub keeps-lives : (t : Rows) (store : List ℕ) (recording place : ℕ) (buf : List ℕ) (start end : ℕ) (r : EntryRenewal) (t′ : Rows) (bytes : List ℕ)
       → length t ≡ 64 → Renew t store recording place buf start end r t′ → 65536 ≤ length store → Within buf start end place → Keeps t store recording place bytes
       → (renewTold r .lives ≡ 1) ↔ ((p : Packet) × Accepts buf start end place p × (part buf start (p .length) ≡ bytes))

@@ -12,7 +12,7 @@ use Rattle.promises.specs.Endings.{refusedThere}
 use Rattle.promises.specs.Handed.{Within}
 use Rattle.renewal.specs.Renewal.{RenewTold, renewTold}
 use Rattle.renewal.specs.declared.EntryRenewal.{EntryRenewal}
-use Rattle.renewal.specs.declared.EntryRenewal.the-variants.{Lives, Dropped}
+use Rattle.renewal.specs.declared.EntryRenewal.the-variants.{Lives, Dropped, Unrenewed}
 use Rattle.renewal_promises.specs.Slots.{Rows, row, word, HeldAt, First, Equals}
 use Rattle.renewal_promises.specs.Adding.{smallStore}
 
@@ -68,3 +68,4 @@ module _ (t : Rows) (store : List ℕ) (recording place : ℕ) (buf : List ℕ) 
     -- the case of the enum is the one that is told
     pub answers : renewTold r .lives ≡ 1 → r ≡ Lives
     pub answers-dropped : renewTold r .refusal .number ≡ 0 → renewTold r .lives ≢ 1 → r ≡ Dropped (renewTold r .cause)
+    pub answers-refused : renewTold r .refusal .number ≢ 0 → r ≡ Unrenewed (renewTold r .refusal)
