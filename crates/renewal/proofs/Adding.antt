@@ -1,20 +1,18 @@
 -- What adding says and leaves behind, path by path.
-use mathlib.Core.Path.{_≡_, refl, sym, ap, _∙_}
+use mathlib.Core.Path.{_≡_, refl, ap, _∙_}
 use mathlib.Core.List.{List}
-use Prim.Native.Nat.{ℕ, _+_, _*_, _≤_, _<_}
-use native.Mathlib.Omega.{arith}
-use lib.ListN.{length, take, set}
-use lib.Dec.{ltb, leb}
+use Prim.Native.Nat.{ℕ, _*_, _≤_, _<_}
+use lib.ListN.{take, set}
 use borrow.Author.Tests.{lt-ltb, le-ltb, le-leb, lt-leb}
 use Rattle.units.specs.Units.{splice}
 use Rattle.terms.specs.declared.Refusal.{Refusal}
-use Rattle.frame.specs.Header.{packetLength, fieldsIn}
-use Rattle.packet.specs.Read.{window, packetIn, readPacket}
-use Rattle.packet.specs.declared.PacketRead.the-variants.{Accepted, Refused}
+use Rattle.frame.specs.Header.{packetLength}
+use Rattle.packet.specs.Read.{packetIn, readPacket}
+use Rattle.packet.specs.declared.PacketRead.the-variants.{Refused}
 use Rattle.renewal.specs.declared.EntryAdd.{EntryAdd}
 use Rattle.renewal.specs.declared.EntryAdd.the-variants.{Added, Unadded}
 use Rattle.renewal.specs.Table.{Entry, entryOf, homeOf}
-use Rattle.renewal.specs.Renewal.{barred, storeSmall, putAnswer, addRead, addEntry, entryIn, ownBytes, tableAdded, storeAdded}
+use Rattle.renewal.specs.Renewal.{barred, storeSmall, putAnswer, addRead, addEntry, ownBytes, tableAdded, storeAdded}
 use Rattle.renewal.proofs.Passing.{Taken}
 
 module _ (t : List Entry) (recording place start n : ℕ) where

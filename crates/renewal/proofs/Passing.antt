@@ -1,7 +1,7 @@
 -- What the reader's tests say, as what the reader says.
 use mathlib.Core.Path.{_≡_, refl, sym, ap, _∙_}
 use mathlib.Core.List.{List}
-use mathlib.Core.Bool.{true, false}
+use mathlib.Core.Bool.{true}
 use Prim.Native.Nat.{ℕ, _+_, _-_, _≤_}
 use native.Mathlib.Omega.{arith}
 use lib.ListN.{length, take}
@@ -17,7 +17,7 @@ use Rattle.packet.specs.declared.PacketPass.the-variants.{Passed, Barred}
 use Rattle.packet.specs.declared.PacketRead.{PacketRead}
 use Rattle.packet.specs.declared.PacketRead.the-variants.{Accepted, Refused}
 use Rattle.packet.proofs.Passes.{bytes-passed, pass-inside, read-barred, read-passed}
-use Rattle.packet.proofs.Own.{packet-in-length, accepted-at, accepted-fits}
+use Rattle.packet.proofs.Own.{packet-in-length, accepted-at}
 use Rattle.renewal.specs.inner.Passing.{passOf}
 
 module _ (buf : List ℕ) (s e base : ℕ) where

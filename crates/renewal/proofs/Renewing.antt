@@ -2,10 +2,9 @@
 use mathlib.Core.Path.{_≡_, refl, sym, ap, _∙_}
 use mathlib.Core.List.{List}
 use mathlib.Core.Bool.{Bool, true, false}
-use Prim.Native.Nat.{ℕ, _+_, _-_, _*_, _≤_, _<_}
+use Prim.Native.Nat.{ℕ, _-_, _*_, _≤_, _<_}
 use native.Mathlib.Omega.{arith}
 use lib.ListN.{length, take}
-use lib.Dec.{ltb, leb}
 use borrow.Author.Tests.{lt-ltb, le-ltb, le-leb, lt-leb}
 use Rattle.units.specs.Units.{part, same}
 use Rattle.units.proofs.Parts.{length-part}
@@ -13,7 +12,7 @@ use Rattle.units.proofs.Sames.{same-long}
 use Rattle.terms.specs.Refusals.{noRefusal}
 use Rattle.terms.specs.declared.Refusal.{Refusal}
 use Rattle.packet.specs.Read.{inside, window, readPacket}
-use Rattle.packet.specs.declared.PacketRead.the-variants.{Accepted, Refused}
+use Rattle.packet.specs.declared.PacketRead.the-variants.{Refused}
 use Rattle.renewal.specs.declared.EntryRenewal.{EntryRenewal}
 use Rattle.renewal.specs.declared.EntryRenewal.the-variants.{Lives, Dropped, Unrenewed}
 use Rattle.renewal.specs.Table.{Entry, lengthOf, entry, slotOf}

@@ -1,8 +1,8 @@
 -- Laws of the search for a slot.
-use mathlib.Core.Path.{_≡_, refl, sym, ap, _∙_}
-use mathlib.Core.List.{List, [], _∷_}
-use mathlib.Core.Bool.{Bool, true, false, _&&_, not}
-use Prim.Native.Nat.{ℕ, zero, suc, _+_, _≤_, _<_}
+use mathlib.Core.Path.{_≡_, refl, _∙_}
+use mathlib.Core.List.{List, []}
+use mathlib.Core.Bool.{Bool, true, false, _&&_}
+use Prim.Native.Nat.{ℕ, suc, _+_, _≤_, _<_}
 use native.Mathlib.Omega.{arith}
 use native.Mathlib.Nat.{zero-add}
 use native.Mathlib.Numerals.{add-one}
@@ -11,7 +11,7 @@ use lib.Seq.{drop-cons}
 use lib.Dec.{ltb}
 use borrow.Author.Tests.{ltb-true, lt-ltb, le-ltb}
 use Rattle.units.specs.Choice.{pick}
-use Rattle.renewal.specs.Table.{Entry, live, free, lowest, slotOf, freeOf, homeOf, nextLive}
+use Rattle.renewal.specs.Table.{Entry, live, lowest, slotOf, freeOf, homeOf, nextLive}
 use Rattle.renewal.specs.inner.Slots.{lowestFrom}
 
 -- the code asks for the place first

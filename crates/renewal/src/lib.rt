@@ -3,8 +3,6 @@
 ghost use mathlib.Core.Path.{_≡_};
 ghost use lib.ListN.{length, take};
 ghost use Prim.Native.Nat.{_≤_, _<_};
-ghost use Rattle.frame.specs.inner.Lengths.{Sound};
-ghost use Rattle.frame.specs.Header.{packetLength};
 ghost use Rattle.packet.specs.Read.{window, packetIn, readPacket};
 ghost use Rattle.renewal.specs.Table.{entryOf, emptyTable, nextLive, slotOf};
 ghost use Rattle.renewal.specs.Renewal.{barred, storeSmall, putAnswer, addEntry, entryIn, ownBytes, tableAdded, storeAdded, holds, judged, renewEntry, tableRenewed};

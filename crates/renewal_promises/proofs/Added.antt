@@ -1,14 +1,14 @@
 -- What adding says and leaves behind.
-use mathlib.Core.Path.{_≡_, refl, sym, ap, subst, _∙_}
-use mathlib.Core.List.{List, [], _∷_, _++_}
+use mathlib.Core.Path.{_≡_, refl, sym, ap, _∙_}
+use mathlib.Core.List.{List, [], _∷_}
 use mathlib.Core.Bool.{Bool, true, false, false≢true}
 use mathlib.Core.Logic.{_⊎_, inl, inr, ⊎-elim, _≢_}
 use Prim.Native.Nat.{ℕ, _+_, _-_, _*_, _≤_, _<_}
 use native.Mathlib.Omega.{arith}
-use lib.ListN.{length, take, drop, set, getD, length-set}
+use lib.ListN.{length, take, set, getD, length-set}
 use lib.Seq.{getD-set-same, getD-set-other, getD-drop}
 use lib.Dec.{ltb, leb}
-use borrow.Author.Tests.{ltb-true, ltb-false, leb-true, leb-false, le-ltb}
+use borrow.Author.Tests.{ltb-true, ltb-false, leb-true, leb-false}
 use Rattle.units.specs.Choice.{pick}
 use Rattle.units.specs.Units.{part, splice, num}
 use Rattle.units.proofs.Parts.{length-part, field-one}
@@ -23,20 +23,19 @@ use Rattle.packet.specs.declared.PacketRead.the-variants.{Accepted, Refused}
 use Rattle.packet.proofs.Own.{accepted-at, accepted-fits}
 use Rattle.packet.proofs.Told.{refusal-numbered}
 use Rattle.promises.specs.Refusals.{OneOf, readerRefusals}
-use Rattle.promises.specs.Endings.{Ends, readTold, refusedThere}
+use Rattle.promises.specs.Endings.{Ends, refusedThere}
 use Rattle.promises.proofs.Members.{one-among, one-ahead, one-behind}
 use Rattle.promises.proofs.Refusing.{read-numbered, start-recorded}
 use Rattle.promises.proofs.Ends.{accepted-is}
-use Rattle.renewal.specs.Table.{Entry, entryOf, slotOf, freeOf, homeOf}
-use Rattle.renewal.specs.Renewal.{barred, storeSmall, putAnswer, addRead, addEntry, entryIn, ownBytes, tableAdded, storeAdded, AddTold, addTold}
+use Rattle.renewal.specs.Table.{entryOf, slotOf, homeOf}
+use Rattle.renewal.specs.Renewal.{barred, storeSmall, putAnswer, addRead, addEntry, entryIn, ownBytes, tableAdded, storeAdded, addTold}
 use Rattle.renewal.specs.declared.EntryAdd.{EntryAdd}
 use Rattle.renewal.specs.declared.EntryAdd.the-variants.{Added, Unadded}
 use Rattle.renewal.proofs.Passing.{own-part}
-use Rattle.renewal.proofs.Adding.{put-long, put-full, put-goes, add-small}
-use Rattle.renewal_promises.specs.Slots.{Rows, row, LiveAt, FreeAt, HeldAt, First, Accepts}
+use Rattle.renewal_promises.specs.Slots.{Rows, FreeAt, HeldAt, First, Accepts}
 use Rattle.renewal_promises.specs.Adding.{addRefusals, addedTold, smallStore, OthersLive, Put, Comes, Adding}
 use Rattle.renewal_promises.specs.Calls.{Add}
-use Rattle.renewal_promises.proofs.Finding.{slot-le, slot-held, slot-none, held-slot, none-slot, free-le, free-first, first-free, all-live, live-all, home-own, home-free}
+use Rattle.renewal_promises.proofs.Finding.{slot-none, held-slot, none-slot, first-free, all-live, live-all, home-own, home-free}
 
 -- a refusal at the window's start, with its place in the recording
 pub barred-there : (number start place : ℕ) → barred number start place ≡ refusedThere number start place

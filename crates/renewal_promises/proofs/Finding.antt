@@ -1,7 +1,7 @@
 -- The lowest slot whose entry is as asked for, in the words of the promises.
-use mathlib.Core.Path.{_≡_, refl, sym, ap, _∙_}
+use mathlib.Core.Path.{_≡_, refl, sym, _∙_}
 use mathlib.Core.List.{List, [], _∷_}
-use mathlib.Core.Bool.{Bool, true, false, _&&_, not, true≢false, false≢true}
+use mathlib.Core.Bool.{Bool, true, false, _&&_, true≢false}
 use mathlib.Core.Logic.{_≢_}
 use Prim.Native.Nat.{ℕ, zero, suc, _+_, _-_, _≤_, _<_}
 use native.Mathlib.Omega.{arith}
@@ -17,7 +17,7 @@ use Rattle.renewal_promises.specs.Slots.{Rows, row, word, LiveAt, FreeAt
 -- ---- the lowest place where a test holds
 
 module _ (f : Entry → Bool) where
-  pub lowest-le : (l : List Entry) → lowest f l ≤ length l
+  lowest-le : (l : List Entry) → lowest f l ≤ length l
   unfolding lowest
   lowest-le [] = omega arith
   lowest-le (e ∷ es) = go (f e) (lowest-le es)
@@ -104,9 +104,6 @@ module _ (t : Rows) (all : length t ≡ 64) where
     held-said : (k : ℕ) → HeldAt t recording place k → (k < length t) × (named recording place (row t k) ≡ true)
     held-said k (slot, lives, number, where′) = (omega (arith, all), says-named recording place (row t k) lives number where′)
 
-    pub slot-le : slotOf recording place t ≤ 64
-    slot-le = omega (arith, all, lowest-le (named recording place) t)
-
     pub slot-held : slotOf recording place t < 64 → First (HeldAt t recording place) (slotOf recording place t)
     slot-held h = finds t (named recording place) (HeldAt t recording place) held-says held-said (omega (arith, all))
 
@@ -131,9 +128,6 @@ module _ (t : Rows) (all : length t ≡ 64) where
 
   free-said : (k : ℕ) → FreeAt t k → (k < length t) × (free (row t k) ≡ true)
   free-said k (slot, zero′) = (omega (arith, all), eq-eqb (word t k 0) 0 zero′)
-
-  pub free-le : freeOf t ≤ 64
-  free-le = omega (arith, all, lowest-le free t)
 
   pub free-first : freeOf t < 64 → First (FreeAt t) (freeOf t)
   free-first h = finds t free (FreeAt t) free-says free-said (omega (arith, all))

@@ -2,7 +2,7 @@
 use mathlib.Core.Path.{_≡_, refl, sym, ap, subst, _∙_}
 use mathlib.Core.List.{List, [], _∷_}
 use mathlib.Core.Bool.{Bool, true, false}
-use mathlib.Core.Logic.{_↔_, _⊎_, inl, inr, ⊎-elim, _≢_}
+use mathlib.Core.Logic.{_↔_, _⊎_, ⊎-elim, _≢_}
 use Prim.Native.Nat.{ℕ, _+_, _*_, _≤_, _<_}
 use native.Mathlib.Omega.{arith}
 use lib.ListN.{length, take, drop, getD}
@@ -11,18 +11,14 @@ use lib.Dec.{ltb, eqb}
 use borrow.Author.Tests.{ltb-true, ltb-false, eqb-true, eqb-false}
 use Rattle.units.specs.Units.{part, splice}
 use Rattle.units.proofs.Writes.{part-splice-before, part-splice-behind}
-use Rattle.packet.specs.Read.{readPacket}
 use Rattle.packet.specs.declared.Packet.{Packet}
-use Rattle.packet.specs.declared.PacketRead.the-variants.{Accepted}
 use Rattle.promises.specs.Handed.{Within}
 use Rattle.promises.proofs.Ends.{accepted-is}
-use Rattle.renewal.specs.Table.{slotOf, freeOf, homeOf}
+use Rattle.renewal.specs.Table.{slotOf, homeOf}
 use Rattle.renewal.specs.Renewal.{addTold, tableRenewed, renewTold}
 use Rattle.renewal.specs.declared.EntryAdd.{EntryAdd}
 use Rattle.renewal.specs.declared.EntryRenewal.{EntryRenewal}
-use Rattle.renewal_promises.specs.Slots.{Rows, row, word, LiveAt, FreeAt, HeldAt, First, Accepts, Equals}
-use Rattle.renewal_promises.specs.Adding.{Put}
-use Rattle.renewal_promises.specs.Renewing.{Drops}
+use Rattle.renewal_promises.specs.Slots.{Rows, row, word, HeldAt, Accepts, Equals}
 use Rattle.renewal_promises.specs.Calls.{Add, Renew}
 use Rattle.renewal_promises.specs.Keeping.{Keeps, Other, Kept}
 use Rattle.renewal_promises.proofs.Finding.{slot-held, slot-none, free-first, home-own, home-free}

@@ -6,3 +6,4 @@ pub mod Windows
 pub mod Kept
 pub mod Renewal
 pub mod Once
+pub mod Examples

@@ -1,30 +1,28 @@
 -- Tables made by adding and renewing: 64 slots, each name at most once, and what is withdrawn is gone.
 use mathlib.Core.Path.{_≡_, refl, sym, ap, subst, _∙_}
-use mathlib.Core.List.{List, [], _∷_}
+use mathlib.Core.List.{List, []}
 use mathlib.Core.Bool.{Bool, true, false}
 use mathlib.Core.Logic.{⊎-elim, _≢_}
 use Prim.Native.Nat.{ℕ, _≤_, _<_}
 use native.Mathlib.Omega.{arith}
-use lib.ListN.{length, set, getD, replicate, length-set, getD-replicate}
-use lib.Seq.{getD-set-same, getD-set-other}
+use lib.ListN.{length, getD, replicate, length-set, getD-replicate}
 use lib.Dec.{ltb, eqb}
 use borrow.Author.Tests.{ltb-true, ltb-false, eqb-true, eqb-false}
-use Rattle.terms.specs.declared.Refusal.{Refusal}
 use Rattle.packet.specs.Read.{window}
 use Rattle.packet.specs.declared.Packet.{Packet}
 use Rattle.promises.specs.Handed.{Within}
-use Rattle.renewal.specs.Table.{Entry, noEntry, entryOf, slotOf, homeOf}
-use Rattle.renewal.specs.Renewal.{entryIn, tableAdded, addTold, tableRenewed, RenewTold, renewTold}
+use Rattle.renewal.specs.Table.{Entry, noEntry, slotOf, homeOf}
+use Rattle.renewal.specs.Renewal.{entryIn, tableAdded, tableRenewed, RenewTold}
 use Rattle.renewal.specs.declared.EntryAdd.{EntryAdd}
 use Rattle.renewal.specs.declared.EntryAdd.the-variants.{Added, Unadded}
 use Rattle.renewal.specs.declared.EntryRenewal.{EntryRenewal}
 use Rattle.renewal.specs.declared.EntryRenewal.the-variants.{Lives, Dropped, Unrenewed}
-use Rattle.renewal_promises.specs.Slots.{Rows, row, word, HeldAt, First, Equals}
+use Rattle.renewal_promises.specs.Slots.{Rows, row, HeldAt, First, Equals}
 use Rattle.renewal_promises.specs.Adding.{Put}
 use Rattle.renewal_promises.specs.Renewing.{Drops}
 use Rattle.renewal_promises.specs.Calls.{Add, Renew}
 use Rattle.renewal_promises.specs.Keeping.{Made, empty, added, renewed}
-use Rattle.renewal_promises.proofs.Finding.{slot-held, slot-none, held-slot, home-own, home-free}
+use Rattle.renewal_promises.proofs.Finding.{slot-held, slot-none, held-slot, home-own}
 use Rattle.renewal_promises.proofs.Added as adding
 use Rattle.renewal_promises.proofs.Renewed as renewing
 
@@ -116,7 +114,7 @@ module _ (t : Rows) (all : length t ≡ 64) (single : Single t) (store : List �
       (renewing.effect t all store recording place buf start end r t′ call)
 
 -- the empty table holds no name
-none-empty : (recording place k : ℕ) → ¬ HeldAt (replicate 64 (replicate 7 0)) recording place k
+pub none-empty : (recording place k : ℕ) → ¬ HeldAt (replicate 64 (replicate 7 0)) recording place k
 none-empty recording place k (slot, lives, number, there) =
     lives (ap (λ (e : List ℕ). getD e 0 0) (getD-replicate 64 k (replicate 7 0) [] slot))
 

@@ -1,14 +1,14 @@
 -- What renewing says and leaves behind.
 use mathlib.Core.Path.{_≡_, refl, sym, ap, subst, _∙_}
-use mathlib.Core.List.{List, [], _∷_}
-use mathlib.Core.Bool.{Bool, true, false, not, _&&_, true≢false, false≢true}
-use mathlib.Core.Logic.{_↔_, _⊎_, inl, inr, ⊎-elim, _≢_}
-use Prim.Native.Nat.{ℕ, _+_, _*_, _≤_, _<_}
+use mathlib.Core.List.{List, []}
+use mathlib.Core.Bool.{Bool, true, false, not, true≢false}
+use mathlib.Core.Logic.{_⊎_, inl, inr, ⊎-elim, _≢_}
+use Prim.Native.Nat.{ℕ, _*_, _≤_, _<_}
 use native.Mathlib.Omega.{arith}
 use lib.ListN.{length, set, length-set}
 use lib.Seq.{getD-set-same, getD-set-other}
 use lib.Dec.{ltb, leb}
-use borrow.Author.Tests.{ltb-true, ltb-false, leb-true, leb-false, le-leb, lt-leb, not-true, not-false}
+use borrow.Author.Tests.{ltb-true, ltb-false, leb-true, leb-false, le-leb}
 use Rattle.units.specs.Choice.{pick}
 use Rattle.units.specs.Units.{part, same}
 use Rattle.units.proofs.Choices.{and-true}
@@ -24,20 +24,19 @@ use Rattle.packet.proofs.Passes.{inside-made}
 use Rattle.packet.proofs.Told.{refusal-numbered}
 use Rattle.promises.specs.Refusals.{OneOf, readerRefusals}
 use Rattle.promises.specs.Endings.{refusedThere}
-use Rattle.promises.specs.Handed.{Within}
 use Rattle.promises.proofs.Refusing.{read-numbered}
 use Rattle.promises.proofs.HandedOut.{inside-within, within-inside, not-inside}
 use Rattle.promises.proofs.Places.{places}
 use Rattle.promises.proofs.Ends.{accepted-is}
-use Rattle.renewal.specs.Table.{Entry, noEntry, lengthOf, entry, slotOf}
-use Rattle.renewal.specs.Renewal.{barred, storeSmall, ownBytes, holds, judged, renewEntry, tableRenewed, RenewTold, renewTold}
+use Rattle.renewal.specs.Table.{noEntry, entry, slotOf}
+use Rattle.renewal.specs.Renewal.{barred, storeSmall, ownBytes, holds, judged, renewEntry, tableRenewed, renewTold}
 use Rattle.renewal.specs.declared.EntryRenewal.{EntryRenewal}
 use Rattle.renewal.specs.declared.EntryRenewal.the-variants.{Lives, Dropped, Unrenewed}
-use Rattle.renewal_promises.specs.Slots.{Rows, row, word, HeldAt, First, Accepts, Equals}
+use Rattle.renewal_promises.specs.Slots.{Rows, word, Equals}
 use Rattle.renewal_promises.specs.Adding.{smallStore}
 use Rattle.renewal_promises.specs.Renewing.{renewRefusals, causes, refusedTold, NoneOr, Drops, Judged, Renewing}
 use Rattle.renewal_promises.specs.Calls.{Renew}
-use Rattle.renewal_promises.proofs.Finding.{slot-none, held-slot, none-slot, held-below}
+use Rattle.renewal_promises.proofs.Finding.{held-slot, none-slot, held-below}
 use Rattle.renewal_promises.proofs.Added.{barred-there, small-there, own-bytes, own-long, not-both, one-packet, told-accepted}
 
 -- ---- the held bytes

@@ -3,9 +3,9 @@ use mathlib.Core.Path.{_≡_, refl, sym, ap, subst, _∙_}
 use mathlib.Core.List.{List}
 use mathlib.Core.Bool.{Bool, true, false}
 use mathlib.Core.Logic.{⊎-elim, _≢_}
-use Prim.Native.Nat.{ℕ, _+_, _-_, _*_, _≤_, _<_}
+use Prim.Native.Nat.{ℕ, _-_, _*_, _≤_, _<_}
 use native.Mathlib.Omega.{arith}
-use lib.ListN.{length, take, set}
+use lib.ListN.{length, set}
 use lib.Dec.{ltb, eqb}
 use borrow.Author.Tests.{ltb-true, ltb-false, eqb-true, eqb-false}
 use Rattle.units.specs.Units.{part}
@@ -21,12 +21,12 @@ use Rattle.promises.specs.Handed.{Within}
 use Rattle.promises.proofs.HandedOut.{within-inside}
 use Rattle.promises.proofs.Ends.{accepted-is}
 use Rattle.renewal.specs.Table.{noEntry, slotOf, homeOf}
-use Rattle.renewal.specs.Renewal.{addEntry, entryIn, ownBytes, tableAdded, storeAdded, AddTold, addTold, renewEntry, tableRenewed, RenewTold, renewTold}
+use Rattle.renewal.specs.Renewal.{addEntry, entryIn, ownBytes, AddTold, addTold, renewEntry, tableRenewed, RenewTold, renewTold}
 use Rattle.renewal.specs.declared.EntryAdd.{EntryAdd}
 use Rattle.renewal.specs.declared.EntryAdd.the-variants.{Added, Unadded}
 use Rattle.renewal.specs.declared.EntryRenewal.{EntryRenewal}
 use Rattle.renewal.specs.declared.EntryRenewal.the-variants.{Dropped}
-use Rattle.renewal_promises.specs.Slots.{Rows, HeldAt, First, Equals}
+use Rattle.renewal_promises.specs.Slots.{Rows, Equals}
 use Rattle.renewal_promises.specs.Adding.{smallStore, Comes}
 use Rattle.renewal_promises.specs.Renewing.{refusedTold, Judged, Renewing}
 use Rattle.renewal_promises.specs.Calls.{Add, Renew}

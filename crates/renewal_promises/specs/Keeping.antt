@@ -1,6 +1,6 @@
 -- Tables that are made by adding and renewing, and what a table keeps.
 use mathlib.Core.Path.{_≡_}
-use mathlib.Core.List.{List, [], _∷_}
+use mathlib.Core.List.{List}
 use mathlib.Core.Logic.{_⊎_, _≢_}
 use Prim.Native.Nat.{ℕ, _*_, _≤_}
 use lib.ListN.{length, replicate}

@@ -1,4 +1,3 @@
-use mathlib.Core.Path.{refl, _∙_}
 use borrow.Author.Needs.{needs}
 use Rattle.frame.specs.Header.{fieldsIn}
 use Rattle.packet.specs.Read.{packetIn}

@@ -1,4 +1,4 @@
-use mathlib.Core.Path.{refl, _∙_}
+use mathlib.Core.Path.{refl}
 use lib.Dec.{eqb}
 use borrow.Author.Needs.{needs}
 use Rattle.renewal.specs.Table.{live, recordingOf, placeOf, entry}
