@@ -107,12 +107,12 @@ impl Bases {
         let lengths = self.lengths.len();
         print!(" bases of {} of {} lengths;", lengths, LENGTHS);
         let mut missing = (LENGTHS - lengths) as u64;
-        missing += print_counts(&self.kinds, &KINDS.map(|(name, _)| name));
+        missing += print_counts(&self.kinds, &KINDS.map(|(name, _)| name), 1);
         print!("; large");
-        missing += print_counts(&self.large, numbers);
+        missing += print_counts(&self.large, numbers, 1);
         if !of_later.is_empty() {
             print!("; later");
-            missing += print_counts(&self.later, of_later);
+            missing += print_counts(&self.later, of_later, 1);
         }
         println!("; made again with another base {}", self.rebased);
         missing + u64::from(self.rebased == 0)

@@ -9,11 +9,11 @@ use generate::random::Random;
 use generate::recipe::{Placed, Recipe};
 
 /// What lent lists and buffers are full of beforehand.
-const PATTERN: u8 = 0xA5;
+pub const PATTERN: u8 = 0xA5;
 pub const LIST_PATTERN: u32 = 0xA5A5_A5A5;
 
 /// Bytes or entries on both sides of what is lent, which a call must leave alone.
-const MARGIN: usize = 4;
+pub const MARGIN: usize = 4;
 
 pub fn describe(window: &Placed) -> String {
     let (start, end, bytes) = (window.start, window.end, hex(&window.buf));
@@ -33,7 +33,7 @@ pub fn refusal_in(window: &Placed, number: u64, inside: usize, reason: u64) -> R
 
 /// The number that a call returns is the one in its struct, and without a refusal there is no place, no room and no reason. 15 has a
 /// reason that the call can give; "all others have reason 0".
-fn returned(
+pub fn returned(
     tally: &mut Tally,
     call: &Call,
     input: &dyn Fn() -> String,

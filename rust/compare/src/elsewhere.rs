@@ -63,7 +63,7 @@ pub fn equal_recordings(tally: &mut Tally, here: &Placed, there: &Placed) {
 }
 
 /// What a call answers for one window, its places moved, is what it answers for the other.
-fn equal_by<A: PartialEq + Debug>(
+pub fn equal_by<A: PartialEq + Debug>(
     tally: &mut Tally,
     here: &Placed,
     there: &Placed,
@@ -81,7 +81,7 @@ fn equal_by<A: PartialEq + Debug>(
 }
 
 /// How far the places of an answer move from one window to another.
-struct Move {
+pub struct Move {
     in_buffer: u64,
     in_recording: u64,
 }
@@ -96,7 +96,7 @@ impl Move {
     }
 
     /// The places of a refusal move, those of none are 0.
-    fn refusal(&self, refusal: &mut Refusal) {
+    pub fn refusal(&self, refusal: &mut Refusal) {
         if refusal.number != 0 {
             self.place(&mut refusal.place);
             self.recording_place(&mut refusal.recording_place);

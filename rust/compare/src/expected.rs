@@ -3,7 +3,7 @@
 
 use ch11::raw::*;
 use generate::recipe::Placed;
-use second::{Draft as State, Fields as Given};
+use second::{Draft as State, Entry as Row, Fields as Given};
 
 /// A struct made of another's fields of the same names.
 macro_rules! same {
@@ -20,6 +20,14 @@ macro_rules! by_field {
     };
 }
 pub(crate) use by_field;
+
+/// Hands the names of a table row's words to a macro, behind what it is given first.
+macro_rules! by_word {
+    ($do:ident! $($given:tt)+) => {
+        $do!($($given)+: live recording place length channel sequence rtc)
+    };
+}
+pub(crate) use by_word;
 
 /// An answer without a refusal: these fields, copied from another struct; the others are zero.
 macro_rules! accepted {
@@ -121,4 +129,51 @@ pub fn add(draft: Draft, buf: &mut [u8], time: u64, upper: u64, bytes: &[u8]) ->
 
 pub fn close(draft: Draft, buf: &mut [u8]) -> (u64, Draft) {
     step(second::close(state(draft), buf))
+}
+
+fn rows(table: &Table) -> [Row; SLOTS] {
+    table.slots.map(|entry| by_word!(same! entry => Row))
+}
+
+/// What the second program answers on the table's rows; they are put back as it leaves them.
+fn on_rows<A>(table: &mut Table, call: impl FnOnce(&mut [Row; SLOTS]) -> A) -> A {
+    let mut rows = rows(table);
+    let answer = call(&mut rows);
+    table.slots = rows.map(|row| by_word!(same! row => Entry));
+    answer
+}
+
+pub fn renewal_add(
+    table: &mut Table,
+    store: &mut [u8],
+    recording: u64,
+    w: &Placed,
+) -> (u64, Added) {
+    let from = on_rows(table, |rows| {
+        second::renewal_add(rows, store, recording, w.base, &w.buf, w.start, w.end)
+    });
+    let (_, mut added) = accepted!(from => Added: slot);
+    added.refusal = refusal(from.refusal);
+    (from.refusal.number, added)
+}
+
+pub fn renewal_renew(
+    table: &mut Table,
+    store: &mut [u8],
+    recording: u64,
+    w: &Placed,
+) -> (u64, Renewed) {
+    let from = on_rows(table, |rows| {
+        second::renewal_renew(rows, store, recording, w.base, &w.buf, w.start, w.end)
+    });
+    let renewed = Renewed {
+        refusal: refusal(from.refusal),
+        lives: u64::from(from.lives),
+        cause: refusal(from.cause),
+    };
+    (from.refusal.number, renewed)
+}
+
+pub fn renewal_next(table: &Table, from: usize) -> usize {
+    second::renewal_next(&rows(table), from)
 }

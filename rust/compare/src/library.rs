@@ -71,3 +71,29 @@ pub fn close(mut draft: Draft, buf: &mut [u8]) -> (u64, Draft) {
     let returned = unsafe { ch11_close(&mut draft, buf.as_mut_ptr(), buf.len()) };
     (returned, draft)
 }
+
+/// The table and the store are lent as they are; the place in the name is the window's base.
+pub fn renewal_add(
+    table: &mut Table,
+    store: &mut [u8],
+    recording: u64,
+    w: &Placed,
+) -> (u64, Added) {
+    let (at, length) = (store.as_mut_ptr(), store.len());
+    call!(ch11_renewal_add: table, at, length, recording, w.base, w.buf.as_ptr(), w.buf.len(), w.start, w.end)
+}
+
+/// The store is lent to be read alone; it could be written to, so that a byte that is written shows.
+pub fn renewal_renew(
+    table: &mut Table,
+    store: &mut [u8],
+    recording: u64,
+    w: &Placed,
+) -> (u64, Renewed) {
+    let (at, length) = (store.as_mut_ptr(), store.len());
+    call!(ch11_renewal_renew: table, at, length, recording, w.base, w.buf.as_ptr(), w.buf.len(), w.start, w.end)
+}
+
+pub fn renewal_next(table: &Table, from: usize) -> usize {
+    unsafe { ch11_renewal_next(table, from) }
+}

@@ -3,6 +3,7 @@
 use crate::building::{KINDS, RULES};
 use crate::check::{self, Step};
 use crate::expected::by_field;
+use crate::renewal::runs;
 use crate::tally::Tally;
 use crate::{elsewhere, library};
 use ch11::raw::Draft;
@@ -25,6 +26,7 @@ pub fn round(tally: &mut Tally, random: &mut Random) {
         10..=11 => recordings(tally, random),
         12..=13 => writer(tally, random),
         14 if random.one_in(100) => large(tally, random),
+        15 if random.one_in(6) => runs::short(tally, random),
         _ => builder(tally, random),
     }
 }

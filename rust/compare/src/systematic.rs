@@ -2,7 +2,7 @@
 //! causes, every alteration and cut of small packets, and the fields whose rules are at their limits.
 
 use crate::tally::Tally;
-use crate::{bodies, building, cases, check, elsewhere, flaws, large};
+use crate::{bodies, building, cases, check, elsewhere, flaws, large, renewal};
 use ch11::raw::{Recording, Refusal};
 use generate::causes::{causes, with_faults, Cause};
 use generate::opened::{MESSAGE, UART};
@@ -13,7 +13,7 @@ use generate::recording::small_packets;
 type Part = fn(&mut Tally, &mut Random);
 
 pub fn all(tally: &mut Tally, random: &mut Random) {
-    let parts: [Part; 16] = [
+    let parts: [Part; 17] = [
         cases::all,
         windows,
         types_and_flags,
@@ -30,6 +30,7 @@ pub fn all(tally: &mut Tally, random: &mut Random) {
         flaws::all,
         building::all,
         large::all,
+        renewal::all,
     ];
     for part in parts {
         part(tally, random);
@@ -159,11 +160,7 @@ fn rules_of(faults: &[Cause]) -> String {
 fn faulty_window(tally: &mut Tally, random: &mut Random, faults: &[Cause]) {
     let (recipe, number) = with_faults(random, faults);
     let window = recipe.placed(random);
-    let (inside, reason) = if number == 15 {
-        (recipe.body_at() + recipe.fault.at, recipe.fault.reason)
-    } else {
-        (0, 0)
-    };
+    let (inside, reason) = recipe.fault_of(number);
     let wanted = check::refusal_in(&window, number, inside, reason);
     let (_, packet) = check::window(tally, random, &window);
     let rules = || rules_of(faults);
@@ -268,24 +265,13 @@ fn alterations(tally: &mut Tally, random: &mut Random) {
                 for (byte, changed) in altered[at..].iter_mut().zip(u64::to_le_bytes(bits)) {
                     *byte ^= changed;
                 }
-                altered_packet(tally, random, altered, number_for_change(&recipe, at));
+                altered_packet(tally, random, altered, recipe.number_for_change(at));
             }
         }
     }
 }
 
-/// The number for a packet of which one unit is changed, by where that is; nothing is required of a body without data sum.
-fn number_for_change(recipe: &Recipe, at: usize) -> Option<u64> {
-    match at {
-        0..=1 => Some(3),
-        2..=23 => Some(4),
-        _ if at < recipe.body_at() => Some(11),
-        _ if recipe.flags & 3 != 0 => Some(13),
-        _ => None,
-    }
-}
-
-/// All readers on a packet with a changed unit: it is refused with this number, at its start.
+/// All readers on a packet with a changed unit: it is refused with this number, where one is known, at its start.
 fn altered_packet(tally: &mut Tally, random: &mut Random, altered: Vec<u8>, number: Option<u64>) {
     let window = Placed::whole(altered).with_some_base(random);
     let (_, packet) = check::window(tally, random, &window);

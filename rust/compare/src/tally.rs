@@ -1,6 +1,7 @@
 //! Counts the comparisons, prints the differences, and tells what was covered.
 
 use crate::bases::Bases;
+use crate::renewal::met::{Met, Seen};
 use generate::recipe::{legal_flags, Placed, TYPES};
 use std::collections::{BTreeMap, BTreeSet};
 use std::fmt::{Debug, Display};
@@ -16,10 +17,17 @@ pub struct Call(
 );
 
 /// The reader's refusals.
-const READERS: &[u64] = &[1, 2, 3, 4, 5, 6, 7, 8, 9, 10, 11, 12, 13, 14, 15];
+pub const READERS: &[u64] = &[1, 2, 3, 4, 5, 6, 7, 8, 9, 10, 11, 12, 13, 14, 15];
 
 /// The reasons of the block walk.
-const WALKS: &[u64] = &[1, 2, 3, 4, 5, 6, 7];
+pub const WALKS: &[u64] = &[1, 2, 3, 4, 5, 6, 7];
+
+/// The slots of a renewal table, and 64 for none.
+const SLOTS: &[u64] = &[
+    0, 1, 2, 3, 4, 5, 6, 7, 8, 9, 10, 11, 12, 13, 14, 15, 16, 17, 18, 19, 20, 21, 22, 23, 24, 25,
+    26, 27, 28, 29, 30, 31, 32, 33, 34, 35, 36, 37, 38, 39, 40, 41, 42, 43, 44, 45, 46, 47, 48, 49,
+    50, 51, 52, 53, 54, 55, 56, 57, 58, 59, 60, 61, 62, 63, 64,
+];
 
 pub static READ: Call = Call(0, "ch11_read_packet", &[&[0], READERS], WALKS);
 pub static LIST: Call = Call(1, "ch11_list_messages", &[&[0], READERS, &[16]], WALKS);
@@ -34,8 +42,17 @@ pub static WRITE: Call = Call(
 pub static OPEN: Call = Call(5, "ch11_open", &[&[0, 16, 17]], &[]);
 pub static ADD: Call = Call(6, "ch11_add", &[&[0, 1, 15, 16, 17]], &[3]);
 pub static CLOSE: Call = Call(7, "ch11_close", &[&[0, 1, 15]], &[7]);
+pub static RENEWAL_ADD: Call = Call(
+    8,
+    "ch11_renewal_add",
+    &[&[0], READERS, &[16, 19, 21]],
+    WALKS,
+);
+pub static RENEWAL_RENEW: Call = Call(9, "ch11_renewal_renew", &[&[0, 1, 16, 20]], &[]);
+/// This one answers a slot.
+pub static RENEWAL_NEXT: Call = Call(10, "ch11_renewal_next", &[SLOTS], &[]);
 
-static CALLS: [&Call; 8] = [
+static CALLS: [&Call; 11] = [
     &READ,
     &LIST,
     &ONE_MESSAGE,
@@ -44,7 +61,20 @@ static CALLS: [&Call; 8] = [
     &OPEN,
     &ADD,
     &CLOSE,
+    &RENEWAL_ADD,
+    &RENEWAL_RENEW,
+    &RENEWAL_NEXT,
 ];
+
+impl Call {
+    pub fn name(&self) -> &'static str {
+        self.1
+    }
+
+    pub fn is(&self, other: &Call) -> bool {
+        self.0 == other.0
+    }
+}
 
 /// The calls that take a window and a base, each with the numbers that it can give for a packet behind others.
 static OF_WINDOWS: [(&Call, &[u64]); 4] = [
@@ -66,14 +96,16 @@ const MOST_DIFFERENCES: u64 = 10;
 #[derive(Default)]
 pub struct Tally {
     /// How often each call returned each number.
-    returned: [BTreeMap<u64, u64>; 8],
+    returned: [BTreeMap<u64, u64>; 11],
     /// How often each call gave each reason.
-    reasons: [BTreeMap<u64, u64>; 8],
+    reasons: [BTreeMap<u64, u64>; 11],
     /// Types and flags of the packets that the reader accepted.
     types: BTreeSet<u64>,
     flags: BTreeSet<u64>,
     /// The windows and bases that each reader was given.
     bases: [Bases; 4],
+    /// What the calls of the renewal table met.
+    met: Met,
     differences: u64,
 }
 
@@ -81,6 +113,17 @@ impl Tally {
     /// Comparisons so far.
     pub fn calls(&self) -> u64 {
         self.returned.iter().flat_map(BTreeMap::values).sum()
+    }
+
+    /// Those of the renewal table among them.
+    pub fn renewals(&self) -> u64 {
+        let of_table = &self.returned[RENEWAL_ADD.0..];
+        of_table.iter().flat_map(BTreeMap::values).sum()
+    }
+
+    /// Counts a call of the renewal table by what it met.
+    pub fn renewal(&mut self, call: &Call, seen: &Seen) {
+        self.met.count(call, seen);
     }
 
     /// Counts a call by the number that it returned, and compares its answer with the expected one.
@@ -154,10 +197,10 @@ impl Tally {
         for Call(index, name, numbers, reasons) in CALLS {
             let counts = &self.returned[*index];
             print!("{}: {} calls;", name, counts.values().sum::<u64>());
-            missing += print_counts(counts, &numbers.concat());
+            missing += print_counts(counts, &numbers.concat(), 1);
             if !reasons.is_empty() {
                 print!("; reasons");
-                missing += print_counts(&self.reasons[*index], reasons);
+                missing += print_counts(&self.reasons[*index], reasons, 1);
             }
             println!();
         }
@@ -165,6 +208,7 @@ impl Tally {
             print!("{}:", name);
             missing += self.bases[*index].report(&numbers.concat(), of_later);
         }
+        missing += self.met.report();
         let all_types = self.types == BTreeSet::from(TYPES);
         let all_flags = self.flags == legal_flags().into_iter().collect();
         let (types, flags) = (self.types.len(), self.flags.len());
@@ -175,20 +219,20 @@ impl Tally {
         if !all_types || !all_flags {
             println!("not those of the rules: {:?} {:?}", self.types, self.flags);
         }
-        println!("numbers, reasons and bases never met: {}", missing);
+        println!("not met, or not often enough: {}", missing);
         let (calls, differences) = (in_thousands(self.calls()), self.differences);
         println!("compared {} calls, {} differences", calls, differences);
         missing == 0 && all_types && all_flags && differences == 0
     }
 }
 
-/// Prints how often each of these was met, and answers how many never were.
-pub fn print_counts<K: Ord + Display>(counts: &BTreeMap<K, u64>, wanted: &[K]) -> u64 {
+/// Prints how often each of these was met, and answers how many were not at least so often.
+pub fn print_counts<K: Ord + Display>(counts: &BTreeMap<K, u64>, wanted: &[K], least: u64) -> u64 {
     let mut missing = 0;
     for one in wanted {
         let count = counts.get(one).unwrap_or(&0);
         print!(" {}:{}", one, count);
-        missing += u64::from(*count == 0);
+        missing += u64::from(*count < least);
     }
     missing
 }

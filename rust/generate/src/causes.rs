@@ -262,10 +262,15 @@ pub fn causes(writer: bool) -> Vec<Cause> {
     all
 }
 
-/// A sound recipe with these faults at once, and the number that is given for it: "Tested from the top", the writer's 17 first.
-/// The fault that is tested last is put in first, so that those tested earlier stay in force.
+/// A sound recipe with these faults at once, and the number that is given for it.
 pub fn with_faults(random: &mut Random, faults: &[Cause]) -> (Recipe, u64) {
-    let mut recipe = Recipe::any(random);
+    let recipe = Recipe::any(random);
+    bent(recipe, random, faults)
+}
+
+/// This recipe with these faults, and the number: "Tested from the top", the writer's 17 first. The fault that is tested last is put in
+/// first, so that those tested earlier stay in force.
+pub fn bent(mut recipe: Recipe, random: &mut Random, faults: &[Cause]) -> (Recipe, u64) {
     let mut in_order = faults.to_vec();
     let place = |cause: &Cause| RULES.iter().position(|rule| rule.0 == cause.number);
     in_order.sort_by_key(|cause| std::cmp::Reverse((cause.number != 17, place(cause))));

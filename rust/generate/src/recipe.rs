@@ -208,6 +208,26 @@ impl Recipe {
         }
     }
 
+    /// The number for this packet with one unit changed and nothing else, by where that is; none is known of a body without data sum.
+    pub fn number_for_change(&self, at: usize) -> Option<u64> {
+        match at {
+            0..=1 => Some(3),
+            2..=23 => Some(4),
+            _ if at < self.body_at() => Some(11),
+            _ if self.flags & 3 != 0 => Some(13),
+            _ => None,
+        }
+    }
+
+    /// A refusal's distance from the packet's start, and its reason: those of the body's fault for 15, else none.
+    pub fn fault_of(&self, number: u64) -> (usize, u64) {
+        if number == 15 {
+            (self.body_at() + self.fault.at, self.fault.reason)
+        } else {
+            (0, 0)
+        }
+    }
+
     /// Where the body starts in the packet.
     pub fn body_at(&self) -> usize {
         self.overhead() - sum_width(self.flags)
