@@ -20,6 +20,13 @@ const BENT: [&str; 8] = [
 /// Pieces of bytes, the window and its base.
 const WINDOW: [&str; 6] = ["bytes", "from", "kept", "start", "end", "base"];
 
+/// What a row of a renewal table can't do without, and what else it may have.
+const ROW: [&str; 5] = ["slot", "live", "recording", "place", "P"];
+const OF_A_ROW: [&str; 3] = ["channel", "sequence", "rtc"];
+
+/// The commands that ask for nothing.
+const PREPARING: [&str; 6] = ["packet", "buffer", "state", "store", "row", "fill"];
+
 /// How many bare words a command takes, the words it needs, and those it may have.
 struct Form(
     std::ops::RangeInclusive<usize>,
@@ -31,7 +38,12 @@ fn form(command: &str) -> Form {
     let packets = 0..=9;
     match command {
         "packet" => Form(1..=2, &[], [GIVEN, BENT].concat()),
-        "buffer" => Form(1..=1, &[], Vec::new()),
+        "buffer" | "store" => Form(1..=1, &[], Vec::new()),
+        "row" => Form(0..=0, &ROW, OF_A_ROW.to_vec()),
+        "fill" => Form(packets, &["slot"], of_a_reader()),
+        "keep" | "renew" => Form(packets, &["recording", "base"], of_a_reader()),
+        "next" => Form(0..=0, &["from"], Vec::new()),
+        "entry" => Form(0..=0, &["slot"], Vec::new()),
         "state" => Form(0..=0, &["used", "blocks", "type", "rule"], Vec::new()),
         "read" | "recording" => Form(packets, &[], of_a_reader()),
         "list" => Form(packets, &["starts", "lengths"], of_a_reader()),
@@ -93,7 +105,7 @@ fn are_places_written(line: &Line) -> bool {
 /// ways, a base without the places by it, a case without a sentence or an outcome, an outcome or several values where there is no case.
 pub fn check(line: &Line, cases: usize) {
     let Form(bare, needed, allowed) = form(line.command);
-    let prepares = ["packet", "buffer", "state"].contains(&line.command);
+    let prepares = PREPARING.contains(&line.command);
     let names: Vec<&str> = line.given.iter().map(|word| halves(word).0).collect();
     let has = |name: &str| names.contains(&name);
     let reads = allowed.contains(&"kept");

@@ -2,11 +2,13 @@
 
 mod described;
 mod grammar;
+mod renewing;
 mod told;
 mod words;
 
 use crate::check::{self, Step};
 use crate::library;
+use crate::renewal::kept::Kept;
 use crate::tally::Tally;
 use ch11::raw::Draft;
 use described::Packets;
@@ -20,13 +22,14 @@ const TABLE: &str = include_str!("table.txt");
 /// What a builder's buffer is full of beforehand.
 const UNWRITTEN: u8 = 0x5A;
 
-/// The packets by their names, and the body that is being built, as the lines before have left them.
+/// The packets by their names, the body that is being built, and the renewal table, as the lines before have left them.
 struct Cases<'a> {
     tally: &'a mut Tally,
     random: &'a mut Random,
     packets: Packets,
     draft: Draft,
     buf: Vec<u8>,
+    kept: Kept,
     count: u64,
 }
 
@@ -37,6 +40,7 @@ pub fn all(tally: &mut Tally, random: &mut Random) {
         packets: Packets::default(),
         draft: library::draft(0, 0, 0, 0),
         buf: Vec::new(),
+        kept: Kept::new(0),
         count: 0,
     };
     for line in lines(TABLE) {
@@ -74,6 +78,12 @@ impl Cases<'_> {
                         self.ask(line, given, &window, window.start as u64);
                     }
                 }
+            }
+            "store" | "row" | "fill" => self.prepare_table(line.command, given),
+            "keep" | "renew" => self.ask_table(line, given),
+            "next" | "entry" => {
+                let told = self.tell_table(line.command, given);
+                self.require(line, given, told);
             }
             "write" => {
                 let told = self.write(given);
@@ -147,13 +157,14 @@ impl Cases<'_> {
         told::draft(&self.draft)
     }
 
-    /// Requires that the answer has the words of the line: all of a refusal's, and of the values of an acceptance those that are named.
+    /// Requires that the answer has the words of the line: all of a refusal's and of a renewal's, and of the values of an acceptance those
+    /// that are named.
     fn require(&mut self, line: &Line, given: &[String], told: Told) {
         self.count += 1;
         let mut wanted = outcome(line, given);
         let names: Vec<&str> = wanted.iter().map(|word| halves(word).0).collect();
-        let refused = told[0] != "0";
-        let is_asked = |word: &String| refused || names.contains(&halves(word).0);
+        let all = told[0] != "0" || line.command == "renew";
+        let is_asked = |word: &String| all || names.contains(&halves(word).0);
         let mut told: Told = told.into_iter().filter(is_asked).collect();
         wanted.sort();
         told.sort();

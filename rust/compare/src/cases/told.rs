@@ -1,8 +1,9 @@
 //! What the calls answer, in the words of the table: the number first, then `name=value`.
 
 use super::words::in_hex;
-use crate::check::LIST_PATTERN;
-use ch11::raw::{Draft, List, Message, Packet, Part, Recording, Refusal, Written};
+use crate::check::{LIST_PATTERN, PATTERN};
+use crate::renewal::met::Outcome;
+use ch11::raw::{Draft, Entry, List, Message, Packet, Part, Recording, Refusal, Written};
 
 pub type Told = Vec<String>;
 
@@ -84,4 +85,35 @@ pub fn draft(draft: &Draft) -> Told {
     let values =
         words!("used" draft.used, "blocks" draft.blocks, "type" draft.kind, "rule" draft.rule);
     answer(&draft.refusal, None, values)
+}
+
+/// What became of adding or renewing: the slot, or whether the entry lives; where it doesn't, the reader's refusal as `cause`, or 0.
+pub fn renewal(outcome: &Outcome, here: u64) -> Told {
+    match outcome {
+        Outcome::Refused(refusal) => answer(refusal, Some(here), Vec::new()),
+        Outcome::Added(slot) => answer(&Refusal::default(), None, words!("slot" slot)),
+        Outcome::Lives => answer(&Refusal::default(), None, words!("lives" 1)),
+        Outcome::Dropped(cause) => {
+            let cause = answer(cause, Some(here), Vec::new());
+            let beside = cause[1..].iter().map(|word| format!("cause_{}", word));
+            let dropped = words!("lives" 0, "cause" cause[0]);
+            let values = dropped.into_iter().chain(beside).collect();
+            answer(&Refusal::default(), None, values)
+        }
+    }
+}
+
+/// A row's words, and the bytes of its slot up to the last that is written.
+pub fn entry(row: &Entry, slot: &[u8]) -> Told {
+    let written = slot.iter().rposition(|byte| *byte != PATTERN);
+    let bytes = in_hex(&slot[..written.map_or(0, |last| last + 1)]);
+    let values = words!(
+        "live" row.live, "recording" row.recording, "place" row.place, "P" row.length, "channel" row.channel,
+        "sequence" row.sequence, "rtc" row.rtc, "bytes" bytes
+    );
+    answer(&Refusal::default(), None, values)
+}
+
+pub fn next(slot: usize) -> Told {
+    answer(&Refusal::default(), None, words!("slot" slot))
 }

@@ -11,7 +11,7 @@ use generate::recipe::Placed;
 use std::fmt::Debug;
 
 /// One call in so many is made again with the same window elsewhere.
-const REPEATED: u64 = 5;
+const REPEATED: u64 = 7;
 
 /// A call that is lent a table and a store, and takes a recording number and a window; its base is the place in the name.
 type Lent<A> = fn(&mut Table, &mut [u8], u64, &Placed) -> (u64, A);

@@ -130,10 +130,10 @@ fn full_tables(tally: &mut Tally, random: &mut Random) {
     let (fits, long) = (sound(random, &fits, NAME.1), sound(random, &long, NAME.1));
     let (fits, long) = (&fits.window, &long.window);
     let full = with_others(SLOTS, STORE_BYTES);
-    adds(tally, &mut full.clone(), NAME.0, fits, at_start(fits, 19));
-    adds(tally, &mut full.clone(), NAME.0, long, at_start(long, 21));
     for slot in 0..SLOTS {
         let (mut freed, mut named) = (full.clone(), full.clone());
+        adds(tally, &mut freed, NAME.0, fits, at_start(fits, 19));
+        adds(tally, &mut freed, NAME.0, long, at_start(long, 21));
         freed.table.slots[slot].live = 0;
         adds(tally, &mut freed, NAME.0, fits, Outcome::Added(slot as u64));
         named.put(slot, NAME, &CASE_L);
