@@ -80,10 +80,10 @@ where
     let outcome = (form.outcome)(&told);
     let refusal = *(form.refusals)(&mut told)[0];
     check::returned(tally, form.call, &input, number, &refusal);
-    tally.renewal(form.call, &Seen::new(before, name, window, outcome));
     let wanted = (form.wanted)(before, name, window);
     tally.require("the answer by §13", &input, &told, &wanted.0);
     tally.require("table and store by §13", &input, &left, &wanted.1);
+    tally.renewal(form.call, &Seen::new(before, name, window, outcome));
     for there in elsewhere_of(window, tally.renewals()) {
         let call = |at: &Placed| on_copy(form.library, before, name, at);
         elsewhere::equal_by(tally, window, &there, call, |by, answer| {

@@ -8,13 +8,14 @@ use crate::tally::Tally;
 use ch11::raw::{Entry, Refusal, Table, SLOTS, STORE_BYTES};
 use generate::filled::{another, cut, lost, of_length, some_packet, sound};
 use generate::random::Random;
-use generate::recipe::{Placed, Recipe};
+use generate::recipe::{sum_width, Placed, Recipe};
 
 pub fn all(tally: &mut Tally, random: &mut Random) {
     live_words(tally, random);
     forged_lengths(tally, random);
     held_bytes(tally, random);
     bytes_read(tally, random);
+    exchanged_units(tally, random);
     names_twice(tally, random);
     near_names(tally, random);
     forged_fields(tally, random);
@@ -152,10 +153,7 @@ fn held_bytes(tally: &mut Tally, random: &mut Random) {
 /// filled end, which doesn't count.
 fn bytes_read(tally: &mut Tally, random: &mut Random) {
     for length in [28, 1_024] {
-        let mut recipe = of_length(random, length);
-        recipe.flags &= 0x30;
-        recipe.time = 0;
-        recipe.body = random.bytes(length - 24);
+        let recipe = plain(random, 0, length - 24);
         let mut window = Placed::whole([recipe.bytes(), random.bytes(30)].concat());
         window.base = NAME.1;
         window.end -= 15;
@@ -168,6 +166,38 @@ fn bytes_read(tally: &mut Tally, random: &mut Random) {
             let wanted = if at < length { ALONE } else { Lives };
             renews(tally, &mut kept, NAME.0, &window, wanted);
             window.buf[at] ^= bit;
+        }
+    }
+}
+
+/// A packet that is carried, without secondary header, with this data sum and a body of so many bytes.
+fn plain(random: &mut Random, flags: u64, body_length: usize) -> Recipe {
+    let mut recipe = of_length(random, 28);
+    recipe.flags = flags;
+    recipe.body = random.bytes(body_length);
+    recipe
+}
+
+/// Two units of the body exchanged: header and data sum are the same, the packet is accepted, and is another one.
+fn exchanged_units(tally: &mut Tally, random: &mut Random) {
+    for flags in 0..4 {
+        let width = sum_width(flags).max(1);
+        for _ in 0..6 {
+            let recipe = plain(random, flags, 40 * width);
+            let mut other = recipe.clone();
+            let (one, two) = (random.index(20), 20 + random.index(20));
+            for byte in 0..width {
+                other.body.swap(one * width + byte, two * width + byte);
+            }
+            let wanted = if other.body == recipe.body {
+                Lives
+            } else {
+                ALONE
+            };
+            let mut kept = Kept::new(STORE_BYTES);
+            kept.put(random.index(SLOTS), NAME, &recipe.bytes());
+            let window = window_on(random, &other);
+            renews(tally, &mut kept, NAME.0, &window, wanted);
         }
     }
 }

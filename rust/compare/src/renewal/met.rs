@@ -52,6 +52,11 @@ impl<'a> Seen<'a> {
         matches!(self.outcome, Added(_))
     }
 
+    /// Whether one of the slots below this one is free.
+    fn is_free_below(&self, slot: usize) -> bool {
+        self.free.first().map_or(false, |free| *free < slot)
+    }
+
     /// The row that the name counts in; all zero if there is none.
     fn row(&self) -> Entry {
         let slot = self.named.first();
@@ -86,11 +91,11 @@ static OF_ADDING: [Kind; 18] = [
         s.is_added() && s.free.len() == 1 && s.named.is_empty()
     }),
     ("freed-slot", |s| {
-        s.is_added() && s.named.is_empty() && s.free[0] + s.free.len() < SLOTS
+        s.is_added() && s.named.is_empty() && s.is_free_below(SLOTS - s.free.len())
     }),
     ("replaced", |s| s.is_added() && !s.named.is_empty()),
     ("replaced-above-a-free-slot", |s| {
-        s.is_added() && !s.named.is_empty() && s.free.first() < s.named.first()
+        s.is_added() && s.named.first().map_or(false, |slot| s.is_free_below(*slot))
     }),
     ("replaced-among-64", |s| s.is_added() && s.free.is_empty()),
     ("name-twice", |s| s.is_added() && s.named.len() > 1),
@@ -146,9 +151,11 @@ static OF_RENEWING: [Kind; 20] = [
     ("other-live-word-dropped", |s| {
         s.is_dropped_alone() && s.row().live > 1
     }),
-    ("slot-63-lives", |s| s.outcome == Lives && s.named[0] == 63),
+    ("slot-63-lives", |s| {
+        s.outcome == Lives && s.named.first() == Some(&63)
+    }),
     ("slot-63-dropped", |s| {
-        s.is_dropped_alone() && s.named[0] == 63
+        s.is_dropped_alone() && s.named.first() == Some(&63)
     }),
     ("20-in-a-free-row", |s| s.is_refused(20) && s.is_spelt),
     ("20-outside", |s| s.is_refused(20) && !s.window.is_taken()),
