@@ -20,6 +20,7 @@ pub fn all(tally: &mut Tally, random: &mut Random) {
     small_stores(tally, random);
     full_tables(tally, random);
     lengths(tally, random);
+    long_windows(tally, random);
 }
 
 /// The name that is tried; no other entry has it.
@@ -170,5 +171,21 @@ fn lengths(tally: &mut Tally, random: &mut Random) {
         let recipe = of_length(random, length);
         let window = sound(random, &recipe, NAME.1).window;
         adds(tally, &mut kept, NAME.0, &window, at_start(&window, 21));
+    }
+}
+
+/// Windows far in a long buffer, and windows longer than a store.
+fn long_windows(tally: &mut Tally, random: &mut Random) {
+    let packet = of_length(random, 400).bytes();
+    let mut kept = with_others(3, STORE_BYTES);
+    for (ahead, behind) in [(70_000, 0), (0, 70_000), (66_000, 66_000)] {
+        let buf = [vec![0x25; ahead], packet.clone(), vec![0xEB; behind]].concat();
+        let mut window = Placed::whole(buf);
+        (window.start, window.base) = (ahead, NAME.1);
+        adds(tally, &mut kept, NAME.0, &window, Outcome::Added(3));
+        renews(tally, &mut kept, NAME.0, &window, Outcome::Lives);
+        window.end = ahead;
+        let withdrawn = Outcome::Dropped(refusal_in(&window, 2, 0, 0));
+        renews(tally, &mut kept, NAME.0, &window, withdrawn);
     }
 }
