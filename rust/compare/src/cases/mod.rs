@@ -81,10 +81,7 @@ impl Cases<'_> {
             }
             "store" | "row" | "fill" => self.prepare_table(line.command, given),
             "keep" | "renew" => self.ask_table(line, given),
-            "next" | "entry" => {
-                let told = self.tell_table(line.command, given);
-                self.require(line, given, told);
-            }
+            "next" | "entry" => self.tell_table(line, given),
             "write" => {
                 let told = self.write(given);
                 self.require(line, given, told);

@@ -1,6 +1,6 @@
 //! The lines of the table that are about the renewal table.
 
-use super::told::{self, Told};
+use super::told;
 use super::words::{named, number, Line};
 use super::Cases;
 use crate::renewal::check;
@@ -58,14 +58,15 @@ impl Cases<'_> {
     }
 
     /// The next slot that lives, or what a slot's row and bytes are.
-    pub fn tell_table(&mut self, command: &str, given: &[String]) -> Told {
+    pub fn tell_table(&mut self, line: &Line, given: &[String]) {
         let part = |name| named(given, name).unwrap_or(0) as usize;
-        if command == "next" {
-            let slot = check::next(self.tally, &self.kept.table, part("from"));
-            return told::next(slot);
-        }
-        let slot = part("slot");
-        let row = &self.kept.table.slots[slot];
-        told::entry(row, &self.kept.store()[slot_bytes(slot)])
+        let table = &self.kept.table;
+        let told = if line.command == "next" {
+            told::next(check::next(self.tally, table, part("from")))
+        } else {
+            let bytes = &self.kept.store()[slot_bytes(part("slot"))];
+            told::entry(&table.slots[part("slot")], bytes)
+        };
+        self.require(line, given, told);
     }
 }

@@ -25,6 +25,8 @@ struct Form<A: 'static> {
     /// The call's refusal, then what is named beside it.
     refusals: fn(&mut A) -> Vec<&mut Refusal>,
     outcome: fn(&A) -> Outcome,
+    /// The answer of a call with this refusal: "all other results are zero".
+    refused: fn(Refusal) -> A,
 }
 
 static ADDING: Form<Added> = Form {
@@ -36,6 +38,10 @@ static ADDING: Form<Added> = Form {
     outcome: |added| match added.refusal.number {
         0 => Outcome::Added(added.slot),
         _ => Outcome::Refused(added.refusal),
+    },
+    refused: |refusal| Added {
+        refusal,
+        ..Added::default()
     },
 };
 
@@ -49,6 +55,10 @@ static RENEWING: Form<Renewed> = Form {
         (0, 0) => Outcome::Dropped(renewed.cause),
         (0, _) => Outcome::Lives,
         _ => Outcome::Refused(renewed.refusal),
+    },
+    refused: |refusal| Renewed {
+        refusal,
+        ..Renewed::default()
     },
 };
 
@@ -80,6 +90,10 @@ where
     let outcome = (form.outcome)(&told);
     let refusal = *(form.refusals)(&mut told)[0];
     check::returned(tally, form.call, &input, number, &refusal);
+    if number != 0 {
+        let alone = (form.refused)(refusal);
+        tally.require("all other results are zero", &input, &told, &alone);
+    }
     let wanted = (form.wanted)(before, name, window);
     tally.require("the answer by §13", &input, &told, &wanted.0);
     tally.require("table and store by §13", &input, &left, &wanted.1);

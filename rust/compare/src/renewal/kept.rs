@@ -128,5 +128,6 @@ pub fn describe(kept: &Kept, name: Name) -> String {
         Some(format!("slot {} holds {}; ", slot, hex(bytes)))
     });
     let held: String = held.collect();
-    format!("{rows}{held}store of {} bytes", kept.store().len())
+    let length = kept.store().len();
+    format!("name {name:?}; {rows}{held}store of {length} bytes")
 }

@@ -4,6 +4,7 @@
 use super::check;
 use super::kept::{entry_of, slot_bytes, Kept, Name};
 use super::met::Outcome;
+use super::orders::at_start;
 use crate::check::refusal_in;
 use crate::tally::Tally;
 use ch11::raw::{Entry, Refusal, SLOTS, SLOT_BYTES, STORE_BYTES};
@@ -53,7 +54,7 @@ struct Run {
     names: Vec<(Name, Recipe)>,
 }
 
-/// How many names and steps a run has; one window in `lost` is no longer the packet's, one step in `renewed` is an adding.
+/// How many names and steps a run has; one window in `lost` is no longer the packet's, one step in `adding` adds.
 #[derive(Clone, Copy)]
 struct Plan {
     names: usize,
@@ -149,12 +150,13 @@ impl Run {
 
     /// What adding comes to: "adding a name already held replaces it in its own slot", "Freed slots are taken again, lowest first".
     fn add(&mut self, name: Name, filled: Filled) -> Outcome {
-        let at_start = |number| Outcome::Refused(refusal_in(&filled.window, number, 0, 0));
         let bytes = match filled.found {
             Found::Refused(number, inside, reason) => {
                 return Outcome::Refused(refusal_in(&filled.window, number, inside, reason));
             }
-            Found::Packet(bytes) if bytes.len() > SLOT_BYTES => return at_start(21),
+            Found::Packet(bytes) if bytes.len() > SLOT_BYTES => {
+                return at_start(&filled.window, 21)
+            }
             Found::Packet(bytes) => bytes,
         };
         let taken: Vec<usize> = self.held.values().map(|held| held.slot).collect();
@@ -162,7 +164,7 @@ impl Run {
         let own = self.held.get(&name).map(|held| held.slot);
         let slot = match own.or(free) {
             Some(slot) => slot,
-            None => return at_start(19),
+            None => return at_start(&filled.window, 19),
         };
         self.written[slot_bytes(slot)][..bytes.len()].copy_from_slice(&bytes);
         self.held.insert(name, Held { slot, bytes });
@@ -172,14 +174,15 @@ impl Run {
     /// What renewing comes to: "The entry lives on exactly when the packet at the window's start is accepted and equals the held bytes;
     /// otherwise it is dropped in that same call".
     fn renew(&mut self, name: Name, filled: &Filled) -> Outcome {
-        let refused = |number, inside, reason| refusal_in(&filled.window, number, inside, reason);
         let held = match self.held.get(&name) {
             Some(held) => held,
-            None => return Outcome::Refused(refused(20, 0, 0)),
+            None => return at_start(&filled.window, 20),
         };
         let cause = match &filled.found {
-            Found::Refused(1, ..) => return Outcome::Refused(refused(1, 0, 0)),
-            Found::Refused(number, inside, reason) => refused(*number, *inside, *reason),
+            Found::Refused(1, ..) => return at_start(&filled.window, 1),
+            Found::Refused(number, inside, reason) => {
+                refusal_in(&filled.window, *number, *inside, *reason)
+            }
             Found::Packet(bytes) if *bytes == held.bytes => return Outcome::Lives,
             Found::Packet(_) => Refusal::default(),
         };

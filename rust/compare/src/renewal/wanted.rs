@@ -87,7 +87,6 @@ fn is_held(kept: &Kept, slot: usize, packet: &[u8]) -> bool {
 
 /// The lowest live slot from this one on, or 64.
 pub fn next(table: &Table, from: usize) -> usize {
-    let rows = table.slots.iter().enumerate().rev();
-    let live = rows.filter(|(slot, row)| row.live != 0 && *slot >= from);
-    live.last().map_or(SLOTS, |(slot, _)| slot)
+    let is_live = |slot: &usize| *slot >= from && table.slots[*slot].live != 0;
+    (0..SLOTS).filter(is_live).min().unwrap_or(SLOTS)
 }
