@@ -53,7 +53,7 @@ static RENEWING: Form<Renewed> = Form {
     refusals: |renewed| vec![&mut renewed.refusal, &mut renewed.cause],
     outcome: |renewed| match (renewed.refusal.number, renewed.lives) {
         (0, 0) => Outcome::Dropped(renewed.cause),
-        (0, _) => Outcome::Lives,
+        (0, 1) if renewed.cause == Refusal::default() => Outcome::Lives,
         _ => Outcome::Refused(renewed.refusal),
     },
     refused: |refusal| Renewed {
