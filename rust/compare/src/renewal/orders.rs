@@ -139,7 +139,10 @@ fn full_tables(tally: &mut Tally, random: &mut Random) {
         adds(tally, &mut freed, NAME.0, fits, Outcome::Added(slot as u64));
         named.put(slot, NAME, &CASE_L);
         adds(tally, &mut named, NAME.0, long, at_start(long, 21));
-        named.table.slots[random.index(slot.max(1))].live *= u64::from(slot == 0);
+        adds(tally, &mut named, NAME.0, fits, Outcome::Added(slot as u64));
+        if slot > 0 {
+            named.table.slots[random.index(slot)].live = 0;
+        }
         adds(tally, &mut named, NAME.0, fits, Outcome::Added(slot as u64));
         renews(tally, &mut named, NAME.0, fits, Outcome::Lives);
     }
