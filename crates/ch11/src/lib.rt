@@ -1,5 +1,6 @@
 // The C interface: each public call of the library, with its result in a lent struct of 64-bit words (include/ch11.h).
-// Each returns the refusal's number, 0 for none, which is also the struct's first word; specs/Calls.antt says all that it leaves behind.
+// Each but ch11_renewal_next returns the refusal's number, 0 for none, which is also the struct's first word; specs/Calls.antt says all
+// that it leaves behind.
 ghost use Rattle.ch11.specs.Calls.{ReadPacket, ListMessages, GiveMessage, ReadRecording, WritePacket, Open, Add, Close, RenewalAdd, RenewalRenew, RenewalNext};
 use packet::PacketRead;
 use packet::list_messages;

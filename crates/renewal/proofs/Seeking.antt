@@ -11,8 +11,7 @@ use lib.Seq.{drop-cons}
 use lib.Dec.{ltb}
 use borrow.Author.Tests.{ltb-true, lt-ltb, le-ltb}
 use Rattle.units.specs.Choice.{pick}
-use Rattle.renewal.specs.Table.{Entry, live, lowest, slotOf, freeOf, homeOf, nextLive}
-use Rattle.renewal.specs.inner.Slots.{lowestFrom}
+use Rattle.renewal.specs.Table.{Entry, lowest, lowestFrom, slotOf, freeOf, homeOf}
 
 -- the code asks for the place first
 pub and-turned : (s t u : Bool) → (s && t && u) ≡ (u && t && s)
@@ -61,15 +60,11 @@ module _ (f : Entry → Bool) (t : List Entry) (all : length t ≡ 64) (from : �
           omega (arith, s .1 below, last)
       go false q = refl
 
--- ---- what the three searches find
+-- ---- what the searches find
 
 pub from-first : (f : Entry → Bool) (t : List Entry) → lowestFrom f t 0 ≡ lowest f t
 unfolding lowestFrom
 from-first f t = zero-add (lowest f t)
-
-pub from-live : (t : List Entry) (from : ℕ) → lowestFrom live t from ≡ nextLive t from
-unfolding lowestFrom nextLive
-from-live t from = refl
 
 module _ (t : List Entry) (recording place k : ℕ) (is : k ≡ slotOf recording place t) where
   pub home-own : k < 64 → k ≡ homeOf recording place t

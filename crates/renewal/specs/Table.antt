@@ -66,6 +66,10 @@ freeOf t = lowest free t
 unfoldable pub homeOf : ℕ → ℕ → List Entry → ℕ
 homeOf recording place t = pick (ltb (slotOf recording place t) 64) (slotOf recording place t) (freeOf t)
 
--- the entries that live, one by one: the lowest such slot at or behind this one, 64 if there is none
-unfoldable pub nextLive : List Entry → ℕ → ℕ
-nextLive t from = pick (ltb from 64) (from + lowest live (drop from t)) 64
+-- the lowest such slot at or behind this one, 64 if there is none
+unfoldable pub lowestFrom : (Entry → Bool) → List Entry → ℕ → ℕ
+lowestFrom asked t from = pick (ltb from 64) (from + lowest asked (drop from t)) 64
+
+-- the entries that live, one by one
+abbrev pub nextLive : List Entry → ℕ → ℕ
+nextLive t from = lowestFrom live t from

@@ -18,7 +18,7 @@ use units::copy_at;
 use units::equal;
 
 mod reading;
-mod slots;
+pub mod slots;
 
 use reading::pass_window;
 use slots::LENGTH;
@@ -44,7 +44,7 @@ pub enum EntryRenewal {
     Unrenewed(Refusal),
 }
 
-// What a slot is looked for by.
+// What a slot is looked for by; inside this crate only.
 pub enum Wanted {
     Named(u64, u64),
     Free,

@@ -3,8 +3,8 @@ ghost use mathlib.Core.Path.{_≡_};
 ghost use Prim.Native.Nat.{_<_, _≤_};
 ghost use lib.ListN.{length, set};
 ghost use Rattle.packet.specs.Read.{packetIn};
-ghost use Rattle.renewal.specs.Table.{entryOf, noEntry, entry, slotOf, homeOf};
-ghost use Rattle.renewal.specs.inner.Slots.{suits, lowestFrom};
+ghost use Rattle.renewal.specs.Table.{entryOf, noEntry, entry, slotOf, homeOf, lowestFrom};
+ghost use Rattle.renewal.specs.inner.Slots.{suits};
 use crate::Table;
 use crate::Wanted;
 use units::read16;
@@ -20,6 +20,7 @@ const PLACE: usize = 2;
 
 pub const LENGTH: usize = 3;
 
+// How many rows there are.
 fn count(rows: &[[u64; 7]]) -> usize
     ensures { λ r. ⌜ r ≡ length (now (rows .entry)) ⌝ }
 {
@@ -27,13 +28,13 @@ fn count(rows: &[[u64; 7]]) -> usize
 }
 
 // 64. What lies behind a reference to an array has the array's length: a proof learns it where the array is lent as a slice.
-fn slots(table: &Table) -> usize
+pub fn slots(table: &Table) -> usize
     ensures { λ r. ⌜ (r ≡ 64) × (length (now (table .entry)) ≡ 64) ⌝ }
 {
     count(table)
 }
 
-// Whether the entry in a slot is as wanted. The place is looked at first: it differs most often.
+// Whether the entry in a slot is as wanted. The place stands first: it differs most often, and the compiled search stops there.
 fn suits(table: &Table, k: usize, wanted: Wanted) -> bool
     requires { ⌜ k < 64 ⌝ }
     ensures { λ r. ⌜ r ≡ suits wanted (entry (now (table .entry)) k) ⌝ }
@@ -80,7 +81,7 @@ pub fn home_of(table: &Table, recording: u64, place: u64) -> usize
     seek(table, 0, Wanted::Free)
 }
 
-// A byte as a word.
+// A byte as a word: of one that is read from a slice a proof does not know by itself that it fits.
 fn word_of(byte: u8) -> u64
     ensures { λ r. ⌜ r ≡ byte ⌝ }
 {
@@ -99,7 +100,7 @@ pub fn put_entry(table: &mut Table, k: usize, recording: u64, place: u64, w: &[u
     table[k] = [1, recording, place, length, channel, sequence, rtc];
 }
 
-// A free slot.
+// Frees a slot: its row is all zeros.
 pub fn drop_entry(table: &mut Table, k: usize)
     requires { ⌜ k < 64 ⌝ }
     ensures { λ _. ⌜ now (table .exit) ≡ set (now (table .entry)) k noEntry ⌝ }

@@ -128,7 +128,7 @@ pub told-accepted : (buf : List ℕ) (start end place : ℕ) (p : Packet) → re
 told-accepted buf start end place p read = ap packetTold read
 
 module _ (t : Rows) (all : length t ≡ 64) (store : List ℕ) (recording place : ℕ) (buf : List ℕ) (start end : ℕ) where
-  others : 64 ≤ homeOf recording place t → OthersLive t recording place
+  pub others : 64 ≤ homeOf recording place t → OthersLive t recording place
   others left = go (ltb (slotOf recording place t) 64) refl
     where
       go : (b : Bool) → ltb (slotOf recording place t) 64 ≡ b → OthersLive t recording place

@@ -11,7 +11,7 @@ use lib.Dec.{ltb, eqb}
 use borrow.Author.Tests.{ltb-true, ltb-false, lt-ltb, le-ltb, eqb-true, eqb-false, eq-eqb, ne-eqb, not-true}
 use Rattle.units.specs.Choice.{pick}
 use Rattle.units.proofs.Choices.{and-true}
-use Rattle.renewal.specs.Table.{Entry, live, free, named, lowest, slotOf, freeOf, homeOf, nextLive}
+use Rattle.renewal.specs.Table.{Entry, live, free, named, lowest, slotOf, freeOf, homeOf, lowestFrom, nextLive}
 use Rattle.renewal_promises.specs.Slots.{Rows, row, word, LiveAt, FreeAt, HeldAt, First}
 
 -- ---- the lowest place where a test holds
@@ -164,7 +164,7 @@ module _ (t : Rows) (all : length t ≡ 64) where
     live-from-said i (slot, lives) = (rw length-drop (omega (arith, all)), rw getD-drop (says-live (row t (from + i)) lives))
 
     pub next-first : (k : ℕ) → First (λ j. (from ≤ j) × LiveAt t j) k → nextLive t from ≡ k
-    unfolding nextLive
+    unfolding lowestFrom
     next-first k ((behind, (slot, lives)), least) =
         let i : from + (k - from) ≡ k = omega arith in
         let low : lowest live (drop from t) ≡ k - from =
@@ -173,7 +173,7 @@ module _ (t : Rows) (all : length t ≡ 64) where
         rw (lt-ltb from 64 (omega arith), low) i
 
     pub next-none : ((j : ℕ) → from ≤ j → ¬ LiveAt t j) → nextLive t from ≡ 64
-    unfolding nextLive
+    unfolding lowestFrom
     next-none none = go (ltb from 64) refl
       where
         go : (b : Bool) → ltb from 64 ≡ b → pick b (from + lowest live (drop from t)) 64 ≡ 64

@@ -10,15 +10,18 @@ use lib.Dec.{ltb, eqb}
 use borrow.Author.Tests.{ltb-true, ltb-false, eqb-true, eqb-false}
 use Rattle.units.specs.Units.{part}
 use Rattle.terms.specs.declared.Refusal.{Refusal}
-use Rattle.packet.specs.Read.{window, packetIn, readPacket}
+use Rattle.packet.specs.Read.{window, packetIn, readPacket, packetTold}
 use Rattle.packet.specs.declared.Packet.{Packet}
-use Rattle.packet.specs.declared.PacketRead.the-variants.{Accepted}
-use Rattle.packet.proofs.Passes.{inside-same, PassedBytes}
+use Rattle.packet.specs.declared.PacketRead.{PacketRead}
+use Rattle.packet.specs.declared.PacketRead.the-variants.{Accepted, Refused}
+use Rattle.packet.proofs.Passes.{inside-made, inside-same, PassedBytes}
 use Rattle.packet.proofs.Own.{packet-in-length, accepted-at, at-accepted}
+use Rattle.packet.proofs.Told.{refusal-numbered}
 use Rattle.packet.proofs.Window.{read-window}
 use Rattle.promises.specs.Endings.{refusedThere}
 use Rattle.promises.specs.Handed.{Within}
 use Rattle.promises.proofs.HandedOut.{within-inside}
+use Rattle.promises.proofs.Refusing.{allLines, number-is}
 use Rattle.promises.proofs.Ends.{accepted-is}
 use Rattle.renewal.specs.Table.{noEntry, slotOf, homeOf}
 use Rattle.renewal.specs.Renewal.{addEntry, entryIn, ownBytes, AddTold, addTold, renewEntry, tableRenewed, RenewTold, renewTold}
@@ -27,7 +30,7 @@ use Rattle.renewal.specs.declared.EntryAdd.the-variants.{Added, Unadded}
 use Rattle.renewal.specs.declared.EntryRenewal.{EntryRenewal}
 use Rattle.renewal.specs.declared.EntryRenewal.the-variants.{Dropped}
 use Rattle.renewal_promises.specs.Slots.{Rows, Equals}
-use Rattle.renewal_promises.specs.Adding.{smallStore, Comes}
+use Rattle.renewal_promises.specs.Adding.{smallStore, Comes, Adding}
 use Rattle.renewal_promises.specs.Renewing.{refusedTold, Judged, Renewing}
 use Rattle.renewal_promises.specs.Calls.{Add, Renew}
 use Rattle.renewal_promises.proofs.Finding.{slot-held, slot-none}
@@ -68,6 +71,14 @@ module _ (a b : List ℕ) (s e s′ e′ place : ℕ) (in-b : Within b s′ e′
       let passes : PassedBytes w (packetIn w s′ place .length) = subst (PassedBytes w) long (subst (λ (v : List ℕ). PassedBytes v (p .length)) same (at .passes)) in
       (packetIn w s′ place, at-accepted b s′ e′ place (packetIn w s′ place) (within-inside b s′ e′ place in-b) passes refl, sym long)
 
+  -- and the number of what is said of it
+  pub number-elsewhere : Within a s e place → packetTold (readPacket a s e place) .refusal .number ≡ packetTold (readPacket b s′ e′ place) .refusal .number
+  unfolding allLines
+  number-elsewhere in-a =
+      number-is a s e place
+      ∙ rw (inside-made a s e place (within-inside a s e place in-a), inside-made b s′ e′ place (within-inside b s′ e′ place in-b), same) refl
+      ∙ sym (number-is b s′ e′ place)
+
   pub equals-elsewhere : (t : Rows) (store : List ℕ) (k : ℕ) → Equals t store k a s e place → Equals t store k b s′ e′ place
   equals-elsewhere t store k eq =
       let p = eq .packet in
@@ -87,15 +98,19 @@ module _ (t : Rows) (all : length t ≡ 64) (store : List ℕ) (recording place 
     (same : window a s e ≡ window b s′ e′) (r q : EntryRenewal) (t₁ t₂ : Rows) (call-a : Renew t store recording place a s e r t₁)
     (call-b : Renew t store recording place b s′ e′ q t₂) where
   abbrev Alike : Type 0
-  Alike = (renewTold r .lives ≡ renewTold q .lives) × (t₁ ≡ t₂)
+  Alike =
+      (renewTold r .refusal .number ≡ renewTold q .refusal .number) × (renewTold r .lives ≡ renewTold q .lives)
+      × (renewTold r .cause .number ≡ renewTold q .cause .number) × (t₁ ≡ t₂)
 
   -- a refusal leaves the table as it was
-  both-refused : (f g : Refusal) → f .number ≢ 0 → g .number ≢ 0 → renewTold r ≡ refusedTold f → renewTold q ≡ refusedTold g → Alike
-  both-refused f g some-f some-g told-a told-b =
+  both-refused : (f g : Refusal) → f .number ≡ g .number → f .number ≢ 0 → g .number ≢ 0 → renewTold r ≡ refusedTold f → renewTold q ≡ refusedTold g → Alike
+  both-refused f g one some-f some-g told-a told-b =
       let says-a = renews t all store recording place a s e r t₁ call-a in
       let says-b = renews t all store recording place b s′ e′ q t₂ call-b in
       let number : RenewTold → ℕ = λ x. x .refusal .number in (
+        ap number told-a ∙ one ∙ sym (ap number told-b),
         ap (λ (x : RenewTold). x .lives) told-a ∙ sym (ap (λ (x : RenewTold). x .lives) told-b),
+        ap (λ (x : RenewTold). x .cause .number) told-a ∙ sym (ap (λ (x : RenewTold). x .cause .number) told-b),
         says-a .untouched (λ z. some-f (sym (ap number told-a) ∙ z)) ∙ sym (says-b .untouched (λ z. some-g (sym (ap number told-b) ∙ z))),
       )
 
@@ -113,19 +128,30 @@ module _ (t : Rows) (all : length t ≡ 64) (store : List ℕ) (recording place 
       let judged-b = says-b .judged room (slotOf recording place t) first in-b in
       go says-a says-b judged-a judged-b (eqb (renewTold r .lives) 1) refl
     where
+      none : Judged t store recording place a s e (slotOf recording place t) r t₁ → Judged t store recording place b s′ e′ (slotOf recording place t) q t₂
+          → renewTold r .refusal .number ≡ renewTold q .refusal .number
+      none judged-a judged-b = ap (λ (x : Refusal). x .number) (judged-a .accepted ∙ sym (judged-b .accepted))
+
+      cause : Judged t store recording place a s e (slotOf recording place t) r t₁ → Judged t store recording place b s′ e′ (slotOf recording place t) q t₂
+          → renewTold r .cause .number ≡ renewTold q .cause .number
+      cause judged-a judged-b =
+          ap (λ (x : Refusal). x .number) (judged-a .cause) ∙ number-elsewhere a b s e s′ e′ place in-b same in-a ∙ sym (ap (λ (x : Refusal). x .number) (judged-b .cause))
+
       go : Renewing t store recording place a s e r t₁ → Renewing t store recording place b s′ e′ q t₂
           → Judged t store recording place a s e (slotOf recording place t) r t₁ → Judged t store recording place b s′ e′ (slotOf recording place t) q t₂
           → (x : Bool) → eqb (renewTold r .lives) 1 ≡ x → Alike
       go says-a says-b judged-a judged-b true h =
           let one-a = eqb-true (renewTold r .lives) 1 h in
           let one-b = judged-b .lives .1 (equals-elsewhere a b s e s′ e′ place in-b same t store (slotOf recording place t) (judged-a .lives .0 one-a)) in
-          (one-a ∙ sym one-b, judged-a .stays one-a ∙ sym (judged-b .stays one-b))
+          (none judged-a judged-b, one-a ∙ sym one-b, cause judged-a judged-b, judged-a .stays one-a ∙ sym (judged-b .stays one-b))
       go says-a says-b judged-a judged-b false h =
           let not-a = eqb-false (renewTold r .lives) 1 h in
           let not-b : renewTold q .lives ≢ 1 = λ one. not-a (judged-a .lives .1 (equals-elsewhere b a s′ e′ s e place in-a (sym same) t store (slotOf recording place t) (judged-b .lives .0 one))) in
           let drop-a = says-a .answers-dropped (ap (λ (x : Refusal). x .number) (judged-a .accepted)) not-a in
           let drop-b = says-b .answers-dropped (ap (λ (x : Refusal). x .number) (judged-b .accepted)) not-b in (
+            none judged-a judged-b,
             judged-a .dropped not-a .0 ∙ sym (judged-b .dropped not-b .0),
+            cause judged-a judged-b,
             after-drop r t₁ _ (call-a .1) drop-a ∙ sym (after-drop q t₂ _ (call-b .1) drop-b),
           )
 
@@ -135,13 +161,13 @@ module _ (t : Rows) (all : length t ≡ 64) (store : List ℕ) (recording place 
       go : (x : Bool) → ltb (length store) 65536 ≡ x → (y : Bool) → ltb (slotOf recording place t) 64 ≡ y → Alike
       go true h y l =
           let small = ltb-true (length store) 65536 h in
-          both-refused (smallStore s place) (smallStore s′ place) (λ (z : _≡_ {A = ℕ} 16 0). omega arith) (λ (z : _≡_ {A = ℕ} 16 0). omega arith)
+          both-refused (smallStore s place) (smallStore s′ place) refl (λ (z : _≡_ {A = ℕ} 16 0). omega arith) (λ (z : _≡_ {A = ℕ} 16 0). omega arith)
           (renews t all store recording place a s e r t₁ call-a .first small) (renews t all store recording place b s′ e′ q t₂ call-b .first small)
       go false h true l = both-judged (ltb-false (length store) 65536 h) (ltb-true (slotOf recording place t) 64 l)
       go false h false l =
           let room = ltb-false (length store) 65536 h in
           let none = slot-none t all recording place (ltb-false (slotOf recording place t) 64 l) in
-          both-refused (refusedThere 20 s place) (refusedThere 20 s′ place) (λ (z : _≡_ {A = ℕ} 20 0). omega arith) (λ (z : _≡_ {A = ℕ} 20 0). omega arith)
+          both-refused (refusedThere 20 s place) (refusedThere 20 s′ place) refl (λ (z : _≡_ {A = ℕ} 20 0). omega arith) (λ (z : _≡_ {A = ℕ} 20 0). omega arith)
           (renews t all store recording place a s e r t₁ call-a .absent room none) (renews t all store recording place b s′ e′ q t₂ call-b .absent room none)
 
 -- ---- adding them
@@ -167,17 +193,75 @@ module _ (t : Rows) (all : length t ≡ 64) (store : List ℕ) (recording place 
 
   module _ (a b : List ℕ) (s e s′ e′ : ℕ) (in-a : Within a s e place) (in-b : Within b s′ e′ place) (same : window a s e ≡ window b s′ e′) (r q : EntryAdd) (t₁ t₂ : Rows)
       (store₁ store₂ : List ℕ) (call-a : Add t store recording place a s e r t₁ store₁) (call-b : Add t store recording place b s′ e′ q t₂ store₂) where
-    pub add-elsewhere : (addTold r .slot ≡ addTold q .slot) × (t₁ ≡ t₂) × (store₁ ≡ store₂)
+    abbrev number : AddTold → ℕ
+    number x = x .refusal .number
+
+    abbrev SaysA : Type 0
+    SaysA = Adding t store recording place a s e r t₁ store₁
+
+    abbrev SaysB : Type 0
+    SaysB = Adding t store recording place b s′ e′ q t₂ store₂
+
+    -- a packet that comes to the question of its slot, at both places
+    one-home : SaysA → SaysB → (p p′ : Packet) → Comes t store recording place a s e p → Comes t store recording place b s′ e′ p′
+        → number (addTold r) ≡ number (addTold q)
+    one-home says-a says-b p p′ comes comes′ = go (ltb (homeOf recording place t) 64) refl
+      where
+        go : (x : Bool) → ltb (homeOf recording place t) 64 ≡ x → number (addTold r) ≡ number (addTold q)
+        go true h =
+            let low = ltb-true (homeOf recording place t) 64 h in
+            let way-a : adding.Way t store recording place a s e r = rw (call-a .0) (adding.way t store recording place a s e) in
+            let way-b : adding.Way t store recording place b s′ e′ q = rw (call-b .0) (adding.way t store recording place b s′ e′) in
+            ap number (adding.told-slot t all store recording place a s e r way-a p comes (homeOf recording place t) (refl, low))
+            ∙ sym (ap number (adding.told-slot t all store recording place b s′ e′ q way-b p′ comes′ (homeOf recording place t) (refl, low)))
+        go false h =
+            let none = ltb-false (homeOf recording place t) 64 h in
+            ap number (says-a .full p comes (adding.others t all store recording place a s e none))
+            ∙ sym (ap number (says-b .full p′ comes′ (adding.others t all store recording place b s′ e′ none)))
+
+    one-accepted : SaysA → SaysB → 65536 ≤ length store → (p : Packet) → readPacket a s e place ≡ Accepted p → number (addTold r) ≡ number (addTold q)
+    one-accepted says-a says-b room p read = go (ltb 1024 (p .length)) refl (read-elsewhere a b s e s′ e′ place in-b same p read)
+      where
+        go : (x : Bool) → ltb 1024 (p .length) ≡ x → (p′ : Packet) × (readPacket b s′ e′ place ≡ Accepted p′) × (p′ .length ≡ p .length)
+            → number (addTold r) ≡ number (addTold q)
+        go true h (p′, read′, long) =
+            let over = ltb-true 1024 (p .length) h in
+            ap number (says-a .long room p (told-accepted a s e place p read) over)
+            ∙ sym (ap number (says-b .long room p′ (told-accepted b s′ e′ place p′ read′) (omega (arith, long, over))))
+        go false h (p′, read′, long) =
+            let short = ltb-false 1024 (p .length) h in
+            one-home says-a says-b p p′ (record { room = room; accepted = told-accepted a s e place p read; short = short })
+            (record { room = room; accepted = told-accepted b s′ e′ place p′ read′; short = omega (arith, long, short) })
+
+    one-number : number (addTold r) ≡ number (addTold q)
+    one-number =
+        go (adding.adds t all store recording place a s e r t₁ store₁ call-a) (adding.adds t all store recording place b s′ e′ q t₂ store₂ call-b)
+        (ltb (length store) 65536) refl (readPacket a s e place) refl
+      where
+        go : SaysA → SaysB → (x : Bool) → ltb (length store) 65536 ≡ x → (y : PacketRead) → readPacket a s e place ≡ y → number (addTold r) ≡ number (addTold q)
+        go says-a says-b true h y read =
+            let small = ltb-true (length store) 65536 h in
+            ap number (says-a .first small) ∙ sym (ap number (says-b .first small))
+        go says-a says-b false h (Accepted p) read = one-accepted says-a says-b (ltb-false (length store) 65536 h) p read
+        go says-a says-b false h (Refused f) read =
+            let room = ltb-false (length store) 65536 h in
+            let same-number = number-elsewhere a b s e s′ e′ place in-b same in-a in
+            let is : packetTold (readPacket a s e place) .refusal .number ≡ f .number = ap (λ (x : PacketRead). packetTold x .refusal .number) read in
+            let some : packetTold (readPacket a s e place) .refusal .number ≢ 0 = λ z. refusal-numbered a s e place f read (sym is ∙ z) in
+            ap number (says-a .reader room some) ∙ same-number ∙ sym (ap number (says-b .reader room (λ z. some (same-number ∙ z))))
+
+    pub add-elsewhere : (addTold r .refusal .number ≡ addTold q .refusal .number) × (addTold r .slot ≡ addTold q .slot) × (t₁ ≡ t₂) × (store₁ ≡ store₂)
     add-elsewhere =
         ⊎-elim
         (λ ka. ⊎-elim
-        (λ kb. (refused-slot r (ka .2) ∙ sym (refused-slot q (kb .2)), ka .0 ∙ sym (kb .0), ka .1 ∙ sym (kb .1)))
+        (λ kb. (one-number, refused-slot r (ka .2) ∙ sym (refused-slot q (kb .2)), ka .0 ∙ sym (kb .0), ka .1 ∙ sym (kb .1)))
         (λ pb. absurd (only-one a b s e s′ e′ in-a (sym same) r q t₁ t₂ store₁ store₂ call-a (ka .2) pb))
         (adding.effect t all store recording place b s′ e′ q t₂ store₂ call-b))
         (λ pa. ⊎-elim
         (λ kb. absurd (only-one b a s′ e′ s e in-b same q r t₂ t₁ store₂ store₁ call-b (kb .2) pa))
         (λ pb.
         let told : r ≡ q = pa .told ∙ sym (pb .told) in (
+          one-number,
           ap (λ (x : EntryAdd). addTold x .slot) told,
           call-a .1 ∙ rw (told, entry-elsewhere recording place a b s e s′ e′ same) (sym (call-b .1)),
           call-a .2 ∙ rw (told, same) (sym (call-b .2)),

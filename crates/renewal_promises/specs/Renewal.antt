@@ -52,15 +52,16 @@ pub record Renewal : Type 0 where
   pub renew-inside : (t : Rows) (store : List ℕ) (recording place : ℕ) (a b : List ℕ) (start end : ℕ) (r q : EntryRenewal) (t₁ t₂ : Rows)
       → end ≤ length a → end ≤ length b → window a start end ≡ window b start end
       → Renew t store recording place a start end r t₁ → Renew t store recording place b start end q t₂ → (r ≡ q) × (t₁ ≡ t₂)
-  -- the same bytes elsewhere in a buffer: the same is added, in the same slot; the same lives and the same is dropped
+  -- the same bytes elsewhere in a buffer: the same is added, in the same slot; the same lives and the same is dropped; with the same numbers
   pub add-elsewhere : (t : Rows) (store : List ℕ) (recording place : ℕ) (a b : List ℕ) (start end start′ end′ : ℕ) (r q : EntryAdd) (t₁ t₂ : Rows) (store₁ store₂ : List ℕ)
       → length t ≡ 64 → Within a start end place → Within b start′ end′ place → window a start end ≡ window b start′ end′
       → Add t store recording place a start end r t₁ store₁ → Add t store recording place b start′ end′ q t₂ store₂
-      → (addTold r .slot ≡ addTold q .slot) × (t₁ ≡ t₂) × (store₁ ≡ store₂)
+      → (addTold r .refusal .number ≡ addTold q .refusal .number) × (addTold r .slot ≡ addTold q .slot) × (t₁ ≡ t₂) × (store₁ ≡ store₂)
   pub renew-elsewhere : (t : Rows) (store : List ℕ) (recording place : ℕ) (a b : List ℕ) (start end start′ end′ : ℕ) (r q : EntryRenewal) (t₁ t₂ : Rows)
       → length t ≡ 64 → Within a start end place → Within b start′ end′ place → window a start end ≡ window b start′ end′
       → Renew t store recording place a start end r t₁ → Renew t store recording place b start′ end′ q t₂
-      → (renewTold r .lives ≡ renewTold q .lives) × (t₁ ≡ t₂)
+      → (renewTold r .refusal .number ≡ renewTold q .refusal .number) × (renewTold r .lives ≡ renewTold q .lives)
+      × (renewTold r .cause .number ≡ renewTold q .cause .number) × (t₁ ≡ t₂)
   -- ---- what is kept
 
   -- other entries, and their bytes in the store, are never touched by an add or a renewal of this one, in forged tables neither

@@ -1,6 +1,6 @@
 // 02 §13's promises are theorems: specs/Renewal.antt, on the definitions that the contracts of the renewal table's calls cite. The functions
 // here tie them to the code: each makes one public call, and promises of it what specs/Calls.antt says, and of its table what the theorems
-// ask for: 64 rows. So every theorem applies to every run.
+// ask for: 64 rows, by `slots`. So every theorem applies to every run.
 ghost use mathlib.Core.Path.{_≡_};
 ghost use lib.ListN.{length};
 ghost use Rattle.renewal_promises.specs.Calls.{Empty, Next, Add, Renew};
@@ -11,6 +11,7 @@ use renewal::add;
 use renewal::empty;
 use renewal::next_live;
 use renewal::renew;
+use renewal::slots::slots;
 
 pub fn starts_empty() -> Table
     ensures { λ r. ⌜ Empty r ⌝ }
@@ -18,24 +19,11 @@ pub fn starts_empty() -> Table
     empty()
 }
 
-fn count(rows: &[[u64; 7]]) -> usize
-    ensures { λ r. ⌜ r ≡ length (now (rows .entry)) ⌝ }
-{
-    rows.len()
-}
-
-// What lies behind a reference to a table has 64 rows: a proof learns it where the table is lent as a slice.
-fn has_64(table: &Table) -> usize
-    ensures { λ _. ⌜ length (now (table .entry)) ≡ 64 ⌝ }
-{
-    count(table)
-}
-
 pub fn finds_next(table: &Table, from: usize) -> usize
     ensures { λ r. ⌜ Next (now (table .entry)) from r ⌝ }
     ensures { λ _. ⌜ length (now (table .entry)) ≡ 64 ⌝ }
 {
-    has_64(table);
+    slots(table);
     next_live(table, from)
 }
 
@@ -51,7 +39,7 @@ pub fn adds_entry(
     ensures { λ r. ⌜ Add (now (table .entry)) (now (store .entry)) recording place (now (buf .entry)) start end r (now (table .exit)) (now (store .exit)) ⌝ }
     ensures { λ _. ⌜ length (now (table .entry)) ≡ 64 ⌝ }
 {
-    has_64(table);
+    slots(table);
     add(table, store, recording, place, buf, start, end)
 }
 
@@ -67,6 +55,6 @@ pub fn renews_entry(
     ensures { λ r. ⌜ Renew (now (table .entry)) (now (store .entry)) recording place (now (buf .entry)) start end r (now (table .exit)) ⌝ }
     ensures { λ _. ⌜ length (now (table .entry)) ≡ 64 ⌝ }
 {
-    has_64(table);
+    slots(table);
     renew(table, store, recording, place, buf, start, end)
 }
