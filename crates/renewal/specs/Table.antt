@@ -2,7 +2,7 @@
 use mathlib.Core.List.{List, [], _∷_}
 use mathlib.Core.Bool.{Bool, _&&_, not}
 use Prim.Native.Nat.{ℕ, suc, _+_}
-use lib.ListN.{length, drop, getD, replicate}
+use lib.ListN.{drop, getD, replicate}
 use lib.Dec.{ltb, eqb}
 use Rattle.units.specs.Choice.{pick}
 use Rattle.packet.specs.declared.Packet.{Packet}
