@@ -7,7 +7,7 @@ use native.Mathlib.Omega.{arith}
 use lib.ListN.{length, take, drop, length-append, List·getD-append, take-append-drop}
 use lib.Seq.{length-take-le}
 use lib.Dec.{T, eqb, leb}
-use borrow.Author.Tests.{eqb-true, eq-eqb, leb-true, le-leb, lt-leb}
+use borrow.Author.Tests.{eqb-true, eq-eqb, leb-true, leb-false, le-leb, lt-leb}
 use Rattle.units.specs.Units.{summed}
 use Rattle.units.specs.Choice.{pick}
 use Rattle.units.proofs.Choices.{and-true, same-test}
@@ -17,7 +17,7 @@ use Rattle.frame.specs.Header.{byte, channelIn, packetLength, dataLength
 use Rattle.frame.specs.Rules.{versionOk, typeOk, flagsOk, channelOk, limit, lengthsOk, enough, synced, headerSummed, whole, secondarySummed, secondaryOk, dataSummed, fillerOk}
 use Rattle.frame.specs.Table.{first, headLines, valueLines, valuesIn, wholeLines, secondaryLines, trailerLines, frameLines}
 use Rattle.frame.specs.inner.Lengths.{Sound}
-use Rattle.frame.proofs.Tables.{holds, numbered, stage-none, stage-first, stage-second}
+use Rattle.frame.proofs.Tables.{holds, numbered, stage-none, stage-same, stage-first, stage-second}
 
 -- ---- the parts of the table
 
@@ -247,16 +247,35 @@ frame-sound w e = let p = parted w e in sound w (p .head) (p .values) (p .there)
 
 -- ---- what stands behind a packet
 
--- v holds a header and all of the packet that it declares; t is what stands behind v
-module _ (v t : List ℕ) (header : 24 ≤ length v) (there : packetLength v ≤ length v) (parts : unfilledLength (flagsIn v) (dataLength v) ≤ packetLength v) where
-  byte-front : (i : ℕ) → i < length v → byte (v ++ t) i ≡ byte v i
-  byte-front i h = List·getD-append v t 0 i h
+-- v holds a header; t is what stands behind v
+module _ (v t : List ℕ) (header : 24 ≤ length v) where
+  byte-front : (i : ℕ) → i < 24 → byte (v ++ t) i ≡ byte v i
+  byte-front i h = List·getD-append v t 0 i (omega arith)
 
+  head-front : headLines (v ++ t) ≡ headLines v
+  unfolding headLines summed
+  head-front =
+      let long : enough (v ++ t) ≡ enough v = le-leb 24 (length (v ++ t)) (omega (arith, length-append v t)) ∙ sym (le-leb 24 (length v) header) in
+      rw (long, byte-front 0 (omega arith), byte-front 1 (omega arith), sum-prefix 2 11 v t (omega arith), field-front v t 22 2 (omega arith))
+
+  values-front : valuesIn (v ++ t) ≡ valuesIn v
+  values-front =
+      rw (
+        field-front v t 2 2 (omega arith),
+        byte-front 12 (omega arith),
+        byte-front 14 (omega arith),
+        byte-front 15 (omega arith),
+        field-front v t 4 4 (omega arith),
+        field-front v t 8 4 (omega arith),
+      )
+
+-- v holds all of the packet that it declares
+module _ (v t : List ℕ) (header : 24 ≤ length v) (there : packetLength v ≤ length v) (parts : unfilledLength (flagsIn v) (dataLength v) ≤ packetLength v) where
   pub flags-front : flagsIn (v ++ t) ≡ flagsIn v
-  flags-front = byte-front 14 (omega arith)
+  flags-front = byte-front v t header 14 (omega arith)
 
   pub kind-front : kindIn (v ++ t) ≡ kindIn v
-  kind-front = byte-front 15 (omega arith)
+  kind-front = byte-front v t header 15 (omega arith)
 
   pub packet-length-front : packetLength (v ++ t) ≡ packetLength v
   packet-length-front = field-front v t 4 4 (omega arith)
@@ -294,22 +313,12 @@ module _ (v t : List ℕ) (header : 24 ≤ length v) (there : packetLength v ≤
       rw (
         secondary-front,
         field-front v t 2 2 (omega arith),
-        byte-front 12 (omega arith),
-        byte-front 13 (omega arith),
+        byte-front v t header 12 (omega arith),
+        byte-front v t header 13 (omega arith),
         flags-front,
         kind-front,
         field-front v t 16 6 (omega arith),
       )
-
-  head-front : headLines (v ++ t) ≡ headLines v
-  unfolding headLines summed
-  head-front =
-      let long : enough (v ++ t) ≡ enough v = le-leb 24 (length (v ++ t)) (omega (arith, length-append v t)) ∙ sym (le-leb 24 (length v) header) in
-      rw (long, byte-front 0 (omega arith), byte-front 1 (omega arith), sum-prefix 2 11 v t (omega arith), field-front v t 22 2 (omega arith))
-
-  values-front : valuesIn (v ++ t) ≡ valuesIn v
-  values-front =
-      rw (field-front v t 2 2 (omega arith), byte-front 12 (omega arith), flags-front, kind-front, packet-length-front, data-length-front)
 
   whole-front : wholeLines (v ++ t) ≡ wholeLines v
   unfolding wholeLines
@@ -330,7 +339,7 @@ module _ (v t : List ℕ) (header : 24 ≤ length v) (there : packetLength v ≤
 
   pub frame-front : frameLines (v ++ t) ≡ frameLines v
   unfolding frameLines
-  frame-front = rw (head-front, values-front, whole-front, secondary-lines-front, trailer-front)
+  frame-front = rw (head-front v t header, values-front v t header, whole-front, secondary-lines-front, trailer-front)
 
 -- what is said of a packet is the same whatever stands behind it
 abbrev pub OfFront : {A : Type 0} → (List ℕ → A) → Type 0
@@ -352,3 +361,41 @@ own-bytes said front w u s same =
     let parts : unfilledLength (flagsIn v) (dataLength v) ≤ packetLength v = rw (← d, ← f, ← p-is) (s .parts) in
     let alone : (t : List ℕ) → said (v ++ t) ≡ said v = λ (t : List ℕ). front v t (omega (arith, s .parts)) (omega arith) parts in
     ap said (sym g) ∙ alone (drop p u) ∙ sym (alone (drop p w)) ∙ ap said e
+
+-- ---- a longer fill
+
+pub short-2 : (w : List ℕ) → length w < 24 → first (frameLines w) ≡ 2
+unfolding frameLines headLines first
+short-2 w h = rw (lt-leb 24 (length w) h)
+
+pub cut-10 : (w : List ℕ) → first (headLines w) ≡ 0 → first (valuesIn w) ≡ 0 → length w < packetLength w → first (frameLines w) ≡ 10
+unfolding frameLines wholeLines first
+cut-10 w head values h =
+    stage-none (headLines w) _ (head-numbered w) head
+    ∙ stage-none (valuesIn w) _ (value-numbered _ _ _ _ _ _) values
+    ∙ rw (lt-leb (packetLength w) (length w) h)
+
+-- what it is neither 2 nor 10 to begin with it stays
+pub frame-longer : (v t : List ℕ) → (first (frameLines v) ≡ 2 → ⊥) → (first (frameLines v) ≡ 10 → ⊥) → first (frameLines (v ++ t)) ≡ first (frameLines v)
+unfolding frameLines
+frame-longer v t not-2 not-10 = header (leb 24 (length v)) refl
+  where
+    behind : (b : Bool) → leb (packetLength v) (length v) ≡ b → 24 ≤ length v → first (headLines v) ≡ 0 → first (valuesIn v) ≡ 0
+        → first (wholeLines (v ++ t) ++ (secondaryLines (v ++ t) ++ trailerLines (v ++ t))) ≡ first (wholeLines v ++ (secondaryLines v ++ trailerLines v))
+    behind true h long head values =
+        let there = leb-true (packetLength v) (length v) h in
+        let parts = lengths-say (kindIn v) (flagsIn v) (packetLength v) (dataLength v) (valued-says _ _ _ _ _ _ values .lengthsOk) .parts in
+        rw (whole-front v t long there parts, secondary-lines-front v t long there parts, trailer-front v t long there parts)
+    behind false h long head values = absurd (not-10 (cut-10 v head values (leb-false (packetLength v) (length v) h)))
+
+    header : (b : Bool) → leb 24 (length v) ≡ b → first (frameLines (v ++ t)) ≡ first (frameLines v)
+    header true h =
+        let long = leb-true 24 (length v) h in
+        rw (head-front v t long, values-front v t long)
+        (stage-same (headLines v) _ _ λ head. stage-same (valuesIn v) _ _ λ values. behind (leb (packetLength v) (length v)) refl long head values)
+    header false h = absurd (not-2 (short-2 v (leb-false 24 (length v) h)))
+
+-- 10 waits for P bytes
+pub cut-longer : (v t : List ℕ) → 24 ≤ length v → first (headLines v) ≡ 0 → first (valuesIn v) ≡ 0 → length (v ++ t) < packetLength v → first (frameLines (v ++ t)) ≡ 10
+cut-longer v t long head values h =
+    cut-10 (v ++ t) (ap first (head-front v t long) ∙ head) (ap first (values-front v t long) ∙ values) (rw (field-front v t 4 4 (omega arith)) h)

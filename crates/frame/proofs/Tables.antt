@@ -62,6 +62,13 @@ stage-none (line n t ∷ xs) ys p e =
     let h = holds n t xs (q .0) e in
     rw (h .0) (stage-none xs ys (q .1) (h .1))
 
+-- the second part is asked only where the first gives 0
+pub stage-same : (xs ys ys′ : List Line) → (first xs ≡ 0 → first ys ≡ first ys′) → first (xs ++ ys) ≡ first (xs ++ ys′)
+unfolding first
+stage-same [] ys ys′ h = h refl
+stage-same (line n true ∷ xs) ys ys′ h = stage-same xs ys ys′ h
+stage-same (line n false ∷ xs) ys ys′ h = refl
+
 pub stage-first : (xs ys : List Line) → first (xs ++ ys) ≡ 0 → first xs ≡ 0
 unfolding first
 stage-first [] ys e = refl

@@ -4,3 +4,4 @@ pub mod Window
 pub mod Own
 pub mod Told
 pub mod Writes
+pub mod Longer

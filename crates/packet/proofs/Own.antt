@@ -83,7 +83,7 @@ module _ (v t : List ℕ) (header : 24 ≤ length v) (there : packetLength v ≤
   unfolding bodyChecked
   checked-front = rw (body-front v t header there parts, fields-front v t header there parts)
 
-  packet-front : (at base : ℕ) → packetIn (v ++ t) at base ≡ packetIn v at base
+  pub packet-front : (at base : ℕ) → packetIn (v ++ t) at base ≡ packetIn v at base
   unfolding packetIn
   packet-front at base =
       rw (

@@ -27,3 +27,4 @@ pub mod Demand3
 pub mod Document01
 pub mod Reasons
 pub mod Places
+pub mod Further

@@ -20,4 +20,5 @@ pub mod Demand3
 pub mod Document01
 pub mod Reasons
 pub mod Places
+pub mod Ahead
 pub mod Cases
