@@ -2,9 +2,10 @@
 use mathlib.Core.Path.{_≡_, refl, sym, ap, subst, _∙_}
 use mathlib.Core.List.{List, [], _∷_, _++_, map}
 use mathlib.Core.Bool.{Bool, true, false}
-use mathlib.Core.Logic.{_≢_}
+use mathlib.Core.Logic.{_≢_, inl, inr, ⊎-elim}
 use Prim.Native.Nat.{ℕ, zero, suc, _+_, _-_, _≤_, _<_}
 use native.Mathlib.Omega.{arith}
+use native.Mathlib.Nat.{add-zero}
 use lib.ListN.{length, take, drop}
 use lib.Seq.{take-take}
 use lib.Dec.{leb}
@@ -26,10 +27,12 @@ use Rattle.packet.specs.declared.PacketRead.the-variants.{Accepted, Refused}
 use Rattle.packet.proofs.Passes.{Inside, inside-made, window-ends, pass-inside}
 use Rattle.packet.proofs.Own.{accepted-at, accepted-fits}
 use Rattle.packet.proofs.Longer.{answer-longer, from-to, pass-elsewhere}
-use Rattle.recording.specs.Reading.{Reading, stopped, ahead, readFrom}
-use Rattle.recording.proofs.Readings.{from, from-end, from-on, from-stops}
-use Rattle.promises.specs.Ahead.{inRecording, seen, Seen, refusedIn}
-use Rattle.promises.proofs.HandedOut.{window-behind}
+use Rattle.recording.specs.Reading.{Reading, stopped, ahead, reading, readRecording}
+use Rattle.recording.specs.declared.Recording.{Recording}
+use Rattle.recording.proofs.Readings.{from, from-end, from-on, from-stops, reading-inside}
+use Rattle.promises.specs.Handed.{lengthOf, Within, HandsOut}
+use Rattle.promises.specs.Ahead.{Waits, inRecording, seen, Seen, refusedIn}
+use Rattle.promises.proofs.HandedOut.{answer, accepted-here, refused-here, inside-within, hands-out, hands-out-once, window-behind}
 use Rattle.promises.proofs.Refusing.{bytesLines, allLines, number-is}
 
 -- ---- one packet
@@ -206,3 +209,69 @@ module _ (a b : List ℕ) (e e′ : ℕ) where
 
   pub from-elsewhere : (s s′ base : ℕ) → Inside a s e base → Inside b s′ e′ base → window a s e ≡ window b s′ e′ → SameFrom a b (from a s e base) (from b s′ e′ base)
   from-elsewhere s s′ base = alike-to (e - s) s s′ base (omega arith)
+
+-- ---- a reading from a place of its window on, told as a recording
+
+module _ (buf : List ℕ) (s e base : ℕ) (i : Inside buf s e base) where
+  pub reading-from : reading buf s e base ≡ from buf s e base
+  reading-from = reading-inside buf s e base (inside-made buf s e base i)
+
+  pub recording-from : readRecording buf s e base ≡ answer (from buf s e base)
+  unfolding readRecording
+  recording-from = ap answer reading-from
+
+  pub handed-from : HandsOut buf s e base (answer (from buf s e base)) (from buf s e base .packets)
+  unfolding readRecording
+  handed-from = rw (← reading-from) (hands-out buf s e base)
+
+  -- no others are handed out
+  pub packets-from : (r : Recording) (ps : List Packet) → HandsOut buf s e base r ps → ps ≡ from buf s e base .packets
+  packets-from r ps h = hands-out-once buf s e base r ps h .1 ∙ ap (λ (x : Reading). x .packets) reading-from
+
+  -- it comes so far, in the buffer and in the recording
+  pub come : (n : ℕ) × (from buf s e base .reached ≡ s + n) × (from buf s e base .«recording_reached» ≡ base + n) × (s + n ≤ e)
+  come =
+      let h = handed-from in
+      let n = lengthOf (from buf s e base .packets) in
+      let within : Within buf s e base = (i .ordered, i .within, omega (arith, i .fits)) in
+      (n, h .covers, h .recorded, ⊎-elim (λ f. omega (arith, h .covers, f .1)) (λ f. omega (arith, h .covers, f .2 within)) (h .ends))
+
+-- packets ahead of the place reached and the refusal there are the reading itself
+ahead-stopped : (ps : List Packet) (at base : ℕ) (r : Refusal)
+    → aheadAll ps (stopped at base r) ≡ record { packets = ps; reached = at; «recording_reached» = base; refusal = r }
+ahead-stopped [] at base r = refl
+ahead-stopped (p ∷ ps) at base r = ap (λ (x : Reading). ahead p x) (ahead-stopped ps at base r)
+
+pub ahead-told : (ps : List Packet) (x : Reading)
+    → aheadAll ps x ≡ record { packets = ps ++ x .packets; reached = x .reached; «recording_reached» = x .«recording_reached»; refusal = x .refusal }
+ahead-told [] x = refl
+ahead-told (p ∷ ps) x = ap (λ (r : Reading). ahead p r) (ahead-told ps x)
+
+module _ (buf : List ℕ) (s e e′ base : ℕ) (i : Inside buf s e base) (i′ : Inside buf s e′ base) (longer : e ≤ e′) where
+  -- what can't wait stands
+  pub from-decided : ¬ Waits (answer (from buf s e base)) → from buf s e′ base ≡ from buf s e base
+  from-decided stands =
+      let r = from buf s e base in
+      let h = handed-from buf s e base i in
+      let c = come buf s e base i in
+      let at : Inside buf (r .reached) e (r .«recording_reached») = rw (c .1, c .2) (inside-on buf s e base (c .0) i (c .3)) in
+      let at′ : Inside buf (r .reached) e′ (r .«recording_reached») = rw (c .1, c .2) (inside-on buf s e′ base (c .0) i′ (omega (arith, c .3))) in
+      ⊎-elim
+      (λ f. absurd (stands (inl (ap (λ (x : Refusal). x .number) (f .2)))))
+      (λ f.
+      let number : packetTold (readPacket buf (r .reached) e (r .«recording_reached»)) .refusal .number ≡ r .refusal .number = ap (λ (x : Refusal). x .number) (f .0) in
+      let again : readPacket buf (r .reached) e′ (r .«recording_reached») ≡ Refused (r .refusal) =
+      read-longer buf (r .reached) e e′ (r .«recording_reached») at at′ longer (λ z. stands (inr (inl (sym number ∙ z)))) (λ z. stands (inr (inr (inl (sym number ∙ z)))))
+      ∙ refused-here buf e (r .reached) (r .«recording_reached») (r .refusal) (f .0) (f .1) in
+      reads-on buf e e′ longer s base i i′
+      ∙ ap (aheadAll (r .packets)) (from-stops buf (r .reached) e′ (r .«recording_reached») (r .refusal) (omega (arith, c .1, c .3, f .2 (inside-within buf s e base (inside-made buf s e base i)))) again)
+      ∙ ahead-stopped (r .packets) (r .reached) (r .«recording_reached») (r .refusal))
+      (h .ends)
+
+-- packets that are handed out are longer than nothing
+pub some-length : (buf : List ℕ) (s e base : ℕ) (r : Recording) (ps : List Packet) → HandsOut buf s e base r ps → 1 ≤ length ps → 0 < lengthOf ps
+unfolding lengthOf
+some-length buf s e base r [] h some = absurd (omega arith)
+some-length buf s e base r (p ∷ ps) h some =
+    let q = accepted-here buf e s base p (rw (add-zero s, add-zero base) at (h .each 0 (omega arith))) in
+    omega (arith, accepted-fits buf s e base p q .some)

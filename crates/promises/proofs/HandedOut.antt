@@ -92,11 +92,11 @@ module _ (buf : List ℕ) (end : ℕ) where
 
 -- whatever is handed out so is what is read
 module _ (buf : List ℕ) (end : ℕ) where
-  accepted-here : (at base : ℕ) (p : Packet) → packetTold (readPacket buf at end base) ≡ accepted p → readPacket buf at end base ≡ Accepted p
+  pub accepted-here : (at base : ℕ) (p : Packet) → packetTold (readPacket buf at end base) ≡ accepted p → readPacket buf at end base ≡ Accepted p
   accepted-here at base p h =
       read-told buf at end base (ap (λ (t : PacketTold). t .refusal .number) h) ∙ ap (λ (t : PacketTold). Accepted (t .packet)) h
 
-  refused-here : (at base : ℕ) (r : Refusal) → packetTold (readPacket buf at end base) .refusal ≡ r → r .number ≢ 0 → readPacket buf at end base ≡ Refused r
+  pub refused-here : (at base : ℕ) (r : Refusal) → packetTold (readPacket buf at end base) .refusal ≡ r → r .number ≢ 0 → readPacket buf at end base ≡ Refused r
   refused-here at base r h n = go (readPacket buf at end base) h
     where
       go : (x : PacketRead) → packetTold x .refusal ≡ r → x ≡ Refused r

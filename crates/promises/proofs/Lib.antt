@@ -28,3 +28,4 @@ pub mod Document01
 pub mod Reasons
 pub mod Places
 pub mod Further
+pub mod Pieces

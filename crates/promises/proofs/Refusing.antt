@@ -20,7 +20,7 @@ use Rattle.packet.specs.declared.PacketPass.the-variants.{Passed, Barred}
 use Rattle.promises.specs.Endings.{refusedThere}
 use Rattle.promises.specs.Refusals.{OneOf, readerRefusals}
 use Rattle.promises.proofs.BodiesKept.{bodyPasses}
-use Rattle.promises.proofs.Members.{apart, apart-here, apart-next, one-behind}
+use Rattle.promises.proofs.Members.{among, apart, apart-here, apart-next, one-among, one-behind}
 
 -- ---- a table's number
 
@@ -35,6 +35,22 @@ unfolding first
 first-one [] = inl refl
 first-one (line n false ∷ lines) = inr (inl refl)
 first-one (line n true ∷ lines) = ⊎-elim inl (λ o. inr (inr o)) (first-one lines)
+
+-- a part that has not this number lets through what is told by it
+pub stage-other : (xs ys : List Line) (n : ℕ) → T (numbered xs) → among n (0 ∷ numbers xs) ≡ false → first (xs ++ ys) ≡ n → (first xs ≡ 0) × (first ys ≡ n)
+stage-other xs ys n above other q = go (eqb (first xs) 0) refl
+  where
+    go : (t : Bool) → eqb (first xs) 0 ≡ t → (first xs ≡ 0) × (first ys ≡ n)
+    go true h = let z = eqb-true (first xs) 0 h in (z, sym (stage-none xs ys above z) ∙ q)
+    go false h =
+        let is : first xs ≡ n = stage-some xs ys (first xs) refl (eqb-false (first xs) 0 h) ∙ q in
+        absurd (false≢true (sym other ∙ one-among n (0 ∷ numbers xs) (rw is at (first-one xs))))
+
+-- and so does a line whose rule is kept, if no line behind it has its number
+pub line-kept : (n : ℕ) (t : Bool) (lines : List Line) → t ≡ true → among n (0 ∷ numbers lines) ≡ false → first (line n t ∷ lines) ≢ n
+unfolding first
+line-kept n true lines kept other q = false≢true (sym other ∙ one-among n (0 ∷ numbers lines) (rw q at (first-one lines)))
+line-kept n false lines kept other q = false≢true kept
 
 -- ---- it is that of the first rule that is not kept
 
@@ -94,7 +110,7 @@ bytesLines w = frameLines w ++ (line 15 (bodyPasses (bodyChecked w)) ∷ [])
 unfoldable pub allLines : List ℕ → ℕ → ℕ → ℕ → List Line
 allLines buf s e base = line 1 (inside buf s e base) ∷ bytesLines (window buf s e)
 
-frame-numbered : (w : List ℕ) → T (numbered (frameLines w))
+pub frame-numbered : (w : List ℕ) → T (numbered (frameLines w))
 unfolding frameLines headLines valueLines wholeLines secondaryLines trailerLines
 frame-numbered w = tt
 
