@@ -29,3 +29,4 @@ pub mod Reasons
 pub mod Places
 pub mod Further
 pub mod Pieces
+pub mod Ahead
