@@ -1,9 +1,10 @@
 -- The demands are not empty: L is among the contents that the writer accepts; a recording of three different packets is read to its
--- exact end, and with two of them altered up to the first; both sides of a base's line; a body is built. All computed by the checker.
+-- exact end, and with two of them altered up to the first; both sides of a base's line; what waits for a longer fill, and a
+-- recording in two pieces; a body is built. All computed by the checker.
 use mathlib.Core.Path.{_≡_, refl, ap}
-use mathlib.Core.List.{List, [], _∷_}
-use mathlib.Core.Logic.{_≢_}
-use Prim.Native.Nat.{ℕ, _+_, _-_, _*_, _^_, _<_}
+use mathlib.Core.List.{List, [], _∷_, _++_}
+use mathlib.Core.Logic.{_≢_, inl}
+use Prim.Native.Nat.{ℕ, zero, suc, _+_, _-_, _*_, _^_, _<_}
 use native.Mathlib.Omega.{arith}
 use lib.ListN.{getD, replicate}
 use lib.Dec.{lit<, lit≤}
@@ -27,7 +28,9 @@ use Rattle.packet.specs.Messages.{messageCount, kthMessage, messageAnswer, mess
 use Rattle.promises.specs.Endings.{refusedThere, givenTold}
 use Rattle.promises.specs.Altered.{secondary, trailer, Pieces, none, intact, altered}
 use Rattle.promises.specs.Cases.{L, lContents, terabyte, flags1588, second, carriedByte, three, threeIn, twoAltered, stampedContents, block, stepOpened, bufferOpened, stepAdded, bufferAdded}
+use Rattle.promises.specs.Ahead.{Piece, answer, InPieces}
 use Rattle.promises.proofs.Alterations.{change-named}
+use Rattle.promises.proofs.HandedOut.{hands-out}
 
 -- ---- L
 
@@ -110,6 +113,62 @@ pub past-base : readRecording L 0 40 (2 ^ 64 - 40)
     ≡ record { accepted = 0; reached = 0; «recording_reached» = 2 ^ 64 - 40; refusal = refusedThere 1 0 (2 ^ 64 - 40) }
 unfolding num bytesOf sumUnits summed zeros timeOk ruleOf messageShape uartShape openBody stampLength lengthBy headAt inside judge blockAt spot stopAt ending walkFrom walk checkBody fieldsIn limit messageRule first headLines valueLines wholeLines secondaryLines trailerLines frameLines packetIn bodyChecked passBody passBytes passWindow readAnswer readPacket L readFrom reading readRecording
 past-base = refl
+
+-- ---- reading ahead: 2, 10 and the exact end wait, and what comes then may be either
+
+-- L's first 23 bytes, then its last header byte as written or another
+pub waits-2 : (readRecording L 0 23 terabyte .refusal .number ≡ 2) × (readRecording L 0 40 terabyte .accepted ≡ 1)
+    × (readRecording (splice L 23 (0x00 ∷ [])) 0 40 terabyte .refusal .number ≡ 4)
+unfolding num bytesOf sumUnits summed zeros timeOk ruleOf messageShape uartShape openBody stampLength lengthBy headAt inside judge blockAt spot stopAt ending walkFrom walk checkBody fieldsIn limit messageRule first headLines valueLines wholeLines secondaryLines trailerLines frameLines packetIn bodyChecked passBody passBytes passWindow readAnswer readPacket L readFrom reading readRecording
+waits-2 = (refl, refl, refl)
+
+-- its first 39, then its last byte as written or another
+pub waits-10 : (readRecording L 0 39 terabyte .refusal .number ≡ 10) × (readRecording L 0 40 terabyte .accepted ≡ 1)
+    × (readRecording (splice L 39 (0x00 ∷ [])) 0 40 terabyte .refusal .number ≡ 13)
+unfolding num bytesOf sumUnits summed zeros timeOk ruleOf messageShape uartShape openBody stampLength lengthBy headAt inside judge blockAt spot stopAt ending walkFrom walk checkBody fieldsIn limit messageRule first headLines valueLines wholeLines secondaryLines trailerLines frameLines packetIn bodyChecked passBody passBytes passWindow readAnswer readPacket L readFrom reading readRecording
+waits-10 = (refl, refl, refl)
+
+-- all of it, then L again or no packet
+pub waits-end : (readRecording (L ++ L) 0 40 terabyte .refusal ≡ noRefusal) × (readRecording (L ++ L) 0 80 terabyte .accepted ≡ 2)
+    × (readRecording (L ++ replicate 40 0x00) 0 80 terabyte .refusal .number ≡ 3)
+unfolding num bytesOf sumUnits summed zeros timeOk ruleOf messageShape uartShape openBody stampLength lengthBy headAt inside judge blockAt spot stopAt ending walkFrom walk checkBody fieldsIn limit messageRule first headLines valueLines wholeLines secondaryLines trailerLines frameLines packetIn bodyChecked passBody passBytes passWindow readAnswer readPacket L readFrom reading readRecording
+waits-end = (refl, refl, refl)
+
+-- L twice, by a window of its first 50 bytes and one, in a buffer of its own, of the rest
+pub piece : ℕ → Piece (L ++ L) 0 80 terabyte
+unfolding L
+piece zero =
+    record {
+      distance = 0;
+      buf = L ++ L;
+      from = 0;
+      to = 50;
+      within = (lit≤ tt, lit≤ tt, lit≤ tt);
+      fits = lit≤ tt;
+      same = refl;
+      packets = reading (L ++ L) 0 50 terabyte .packets;
+      handed = hands-out (L ++ L) 0 50 terabyte;
+    }
+piece (suc n) =
+    record {
+      distance = 40;
+      buf = 0xEE ∷ L;
+      from = 1;
+      to = 41;
+      within = (lit≤ tt, lit≤ tt, lit≤ tt);
+      fits = lit≤ tt;
+      same = refl;
+      packets = reading (0xEE ∷ L) 1 41 (terabyte + 40) .packets;
+      handed = hands-out (0xEE ∷ L) 1 41 (terabyte + 40);
+    }
+
+pub two-pieces : InPieces piece 1
+unfolding num bytesOf sumUnits summed zeros timeOk ruleOf messageShape uartShape openBody stampLength lengthBy headAt inside judge blockAt spot stopAt ending walkFrom walk checkBody fieldsIn limit messageRule first headLines valueLines wholeLines secondaryLines trailerLines frameLines packetIn bodyChecked passBody passBytes passWindow readAnswer readPacket L readFrom reading readRecording piece
+two-pieces = record { first = refl; next = λ k l. go k l; last = inl refl }
+  where
+    go : (k : ℕ) → k < 1 → terabyte + piece (suc k) .distance ≡ answer (piece k) .«recording_reached»
+    go zero l = refl
+    go (suc k) l = absurd (omega (arith, l))
 
 -- ---- a message with its time stamp: behind header, secondary header, channel word, stamp and ID word
 
