@@ -252,13 +252,13 @@ module _ (v t : List ℕ) (header : 24 ≤ length v) where
   byte-front : (i : ℕ) → i < 24 → byte (v ++ t) i ≡ byte v i
   byte-front i h = List·getD-append v t 0 i (omega arith)
 
-  head-front : headLines (v ++ t) ≡ headLines v
+  pub head-front : headLines (v ++ t) ≡ headLines v
   unfolding headLines summed
   head-front =
       let long : enough (v ++ t) ≡ enough v = le-leb 24 (length (v ++ t)) (omega (arith, length-append v t)) ∙ sym (le-leb 24 (length v) header) in
       rw (long, byte-front 0 (omega arith), byte-front 1 (omega arith), sum-prefix 2 11 v t (omega arith), field-front v t 22 2 (omega arith))
 
-  values-front : valuesIn (v ++ t) ≡ valuesIn v
+  pub values-front : valuesIn (v ++ t) ≡ valuesIn v
   values-front =
       rw (
         field-front v t 2 2 (omega arith),
@@ -368,14 +368,14 @@ pub short-2 : (w : List ℕ) → length w < 24 → first (frameLines w) ≡ 2
 unfolding frameLines headLines first
 short-2 w h = rw (lt-leb 24 (length w) h)
 
-pub cut-10 : (w : List ℕ) → first (headLines w) ≡ 0 → first (valuesIn w) ≡ 0 → length w < packetLength w → first (frameLines w) ≡ 10
+cut-10 : (w : List ℕ) → first (headLines w) ≡ 0 → first (valuesIn w) ≡ 0 → length w < packetLength w → first (frameLines w) ≡ 10
 unfolding frameLines wholeLines first
 cut-10 w head values h =
     stage-none (headLines w) _ (head-numbered w) head
     ∙ stage-none (valuesIn w) _ (value-numbered _ _ _ _ _ _) values
     ∙ rw (lt-leb (packetLength w) (length w) h)
 
--- what it is neither 2 nor 10 to begin with it stays
+-- a number that is neither 2 nor 10 stays
 pub frame-longer : (v t : List ℕ) → (first (frameLines v) ≡ 2 → ⊥) → (first (frameLines v) ≡ 10 → ⊥) → first (frameLines (v ++ t)) ≡ first (frameLines v)
 unfolding frameLines
 frame-longer v t not-2 not-10 = header (leb 24 (length v)) refl

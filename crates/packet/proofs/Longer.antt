@@ -8,13 +8,12 @@ use lib.Dec.{eqb}
 use borrow.Author.Tests.{eqb-true}
 use Rattle.units.specs.Choice.{pick}
 use Rattle.terms.specs.Refusals.{refused, placed}
-use Rattle.terms.specs.declared.Refusal.{Refusal}
 use Rattle.body.specs.declared.Checked.{Checked}
 use Rattle.body.specs.declared.Checked.the-variants.{Counted, Faulty}
 use Rattle.frame.specs.Header.{flagsIn, bodyAt}
 use Rattle.frame.specs.Table.{first, frameLines}
 use Rattle.frame.proofs.Frames.{flags-front, packet-length-front, frame-sound, frame-longer}
-use Rattle.packet.specs.Read.{packetIn, bodyChecked, passBody, passBytes, readAnswer}
+use Rattle.packet.specs.Read.{bodyChecked, passBody, passBytes, readAnswer}
 use Rattle.packet.specs.declared.PacketPass.{PacketPass}
 use Rattle.packet.specs.declared.PacketPass.the-variants.{Passed, Barred}
 use Rattle.packet.proofs.Own.{checked-front, packet-front}

@@ -3,8 +3,7 @@ use mathlib.Core.Path.{_≡_, refl, sym, ap, _∙_}
 use mathlib.Core.List.{List, _++_}
 use Prim.Native.Nat.{ℕ, _+_, _-_, _≤_, _<_}
 use native.Mathlib.Omega.{arith}
-use lib.ListN.{length, take, drop}
-use lib.Seq.{take-take}
+use lib.ListN.{length}
 use borrow.Author.Tests.{not-false}
 use mathlib.Core.Bool.{not}
 use Rattle.units.specs.Units.{part}
@@ -15,7 +14,7 @@ use Rattle.frame.specs.Table.{first, frameLines}
 use Rattle.frame.specs.inner.Lengths.{Sound}
 use Rattle.frame.proofs.Frames.{flags-front, kind-front, packet-length-front, data-length-front, head-sum-front, filler-at-front, sum-at-front, body-front, data-sum-front, fields-front, frame-front, frame-sound, OfFront, own-bytes}
 use Rattle.packet.proofs.Passes.{Inside, inside-says, inside-made, window-ends, PassedBytes, bytes-passed, passed-bytes, barred-passed, pass-inside, read-passed}
-use Rattle.packet.proofs.Window.{entries-told}
+use Rattle.packet.proofs.Window.{own-part, entries-told}
 use Rattle.packet.specs.Read.{inside, window, packetIn, bodyChecked, passBytes, passWindow, readAnswer, readPacket, Together}
 use Rattle.packet.specs.Messages.{messageCount, kthMessage, listPacket, starts, lengths, messagePacket, entries}
 use Rattle.packet.specs.declared.Packet.{Packet}
@@ -116,9 +115,9 @@ module _ (a b : List ℕ) (s e f base : ℕ) (p : Packet) (h : readPacket a s e 
       let w = window a s e in
       let u = window b s f in
       let l = at .passes .long in
-      let x : take (p .length) u ≡ part b s (p .length) = take-take (p .length) (f - s) (drop s b) (omega arith) in
-      let y : take (p .length) w ≡ part a s (p .length) = take-take (p .length) (e - s) (drop s a) (omega (arith, k .within)) in
-      own-bytes said front w u (at .passes .sound) (rw l at (x ∙ sym same ∙ sym y))
+      let x = own-part b s f (p .length) (omega arith) in
+      let y = own-part a s e (p .length) (omega (arith, k .within)) in
+      own-bytes said front w u (at .passes .sound) (rw l at (sym x ∙ sym same ∙ y))
 
   own-passes : PassedBytes (window b s f) (p .length)
   own-passes =

@@ -67,6 +67,10 @@ pub inside-not : (buf : List ℕ) (s e base : ℕ) → (leb s e && leb e (length
 unfolding inside
 inside-not buf s e base h = rw h
 
+-- a window that begins further on is in its buffer too, and its base is moved on as far
+pub inside-on : (buf : List ℕ) (s e base n : ℕ) → Inside buf s e base → s + n ≤ e → Inside buf (s + n) e (base + n)
+inside-on buf s e base n i h = record { ordered = h; within = i .within; fits = omega (arith, i .fits, h) }
+
 pub window-ends : (buf : List ℕ) (s e base : ℕ) → Inside buf s e base → s + length (window buf s e) ≡ e
 window-ends buf s e base i = omega (arith, length-part buf s (e - s) (omega (arith, i .ordered, i .within)), i .ordered)
 

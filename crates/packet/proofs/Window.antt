@@ -2,12 +2,13 @@
 use mathlib.Core.Path.{_≡_, refl, _∙_, sym}
 use mathlib.Core.List.{List}
 use mathlib.Core.Bool.{Bool, true, false}
-use Prim.Native.Nat.{ℕ, _≤_, min}
+use Prim.Native.Nat.{ℕ, _-_, _≤_, min}
 use native.Mathlib.Omega.{arith}
-use lib.ListN.{length, drop, length-append, length-drop}
-use lib.Seq.{take-at, drop-at}
+use lib.ListN.{length, take, drop, length-append, length-drop}
+use lib.Seq.{take-at, drop-at, take-take}
 use lib.Dec.{ltb}
 use borrow.Author.Tests.{ltb-false}
+use Rattle.units.specs.Units.{part}
 use Rattle.units.specs.Choice.{pick}
 use Rattle.terms.specs.Refusals.{refused, needing}
 use Rattle.body.specs.Answers.{tab, filled}
@@ -60,6 +61,10 @@ length-after (Listed n) values old h = simp (length-append, length-tab, length-d
 length-after (Unlisted r) values old h = refl
 
 -- ---- the window
+
+-- the first bytes from its start on, in the buffer and in the window
+pub own-part : (buf : List ℕ) (s e n : ℕ) → n ≤ e - s → part buf s n ≡ take n (window buf s e)
+own-part buf s e n h = sym (take-take n (e - s) (drop s buf) h)
 
 -- two buffers that reach to the end, with the same bytes from start to it
 module _ (a b : List ℕ) (s e base : ℕ) (in-a : e ≤ length a) (in-b : e ≤ length b) (same : window a s e ≡ window b s e) where

@@ -28,7 +28,7 @@ use Rattle.packet.specs.Messages.{messageCount, kthMessage, messageAnswer, mess
 use Rattle.promises.specs.Endings.{refusedThere, givenTold}
 use Rattle.promises.specs.Altered.{secondary, trailer, Pieces, none, intact, altered}
 use Rattle.promises.specs.Cases.{L, lContents, terabyte, flags1588, second, carriedByte, three, threeIn, twoAltered, stampedContents, block, stepOpened, bufferOpened, stepAdded, bufferAdded}
-use Rattle.promises.specs.Ahead.{Piece, answer, InPieces}
+use Rattle.promises.specs.Ahead.{Piece, answer, Last, InTurn}
 use Rattle.promises.proofs.Alterations.{change-named}
 use Rattle.promises.proofs.HandedOut.{hands-out}
 
@@ -162,9 +162,9 @@ piece (suc n) =
       handed = hands-out (0xEE ∷ L) 1 41 (terabyte + 40);
     }
 
-pub two-pieces : InPieces piece 1
+pub two-pieces : InTurn piece 1 × Last (piece 1)
 unfolding num bytesOf sumUnits summed zeros timeOk ruleOf messageShape uartShape openBody stampLength lengthBy headAt inside judge blockAt spot stopAt ending walkFrom walk checkBody fieldsIn limit messageRule first headLines valueLines wholeLines secondaryLines trailerLines frameLines packetIn bodyChecked passBody passBytes passWindow readAnswer readPacket L readFrom reading readRecording piece
-two-pieces = record { first = refl; next = λ k l. go k l; last = inl refl }
+two-pieces = (record { first = refl; next = go }, inl refl)
   where
     go : (k : ℕ) → k < 1 → terabyte + piece (suc k) .distance ≡ answer (piece k) .«recording_reached»
     go zero l = refl

@@ -1,18 +1,15 @@
 -- Reading ahead: what is read of a window that is filled further, and of the same bytes at another place of a buffer.
 use mathlib.Core.Path.{_≡_, refl, sym, ap, subst, _∙_}
-use mathlib.Core.List.{List, [], _∷_, _++_, map}
+use mathlib.Core.List.{List, [], _∷_, map, append-nil}
 use mathlib.Core.Bool.{Bool, true, false}
-use mathlib.Core.Logic.{_≢_, inl, inr, ⊎-elim}
+use mathlib.Core.Logic.{_≢_, ⊎-elim}
 use Prim.Native.Nat.{ℕ, zero, suc, _+_, _-_, _≤_, _<_}
 use native.Mathlib.Omega.{arith}
 use native.Mathlib.Nat.{add-zero}
-use lib.ListN.{length, take, drop}
-use lib.Seq.{take-take}
+use lib.ListN.{length, take}
 use lib.Dec.{leb}
 use borrow.Author.Tests.{leb-true, leb-false}
 use Rattle.units.specs.Units.{part}
-use Rattle.units.proofs.Parts.{part-add}
-use Rattle.terms.specs.Refusals.{noRefusal, recorded, placed}
 use Rattle.terms.specs.declared.Refusal.{Refusal}
 use Rattle.frame.specs.Header.{flagsIn, secondaryLength, bodyAt, fillerAt, sumAt, dataLength, fillerLength, sumLength}
 use Rattle.frame.specs.Table.{first, frameLines}
@@ -24,15 +21,17 @@ use Rattle.packet.specs.declared.PacketPass.{PacketPass}
 use Rattle.packet.specs.declared.PacketPass.the-variants.{Passed, Barred}
 use Rattle.packet.specs.declared.PacketRead.{PacketRead}
 use Rattle.packet.specs.declared.PacketRead.the-variants.{Accepted, Refused}
-use Rattle.packet.proofs.Passes.{Inside, inside-made, window-ends, pass-inside}
+use Rattle.packet.proofs.Passes.{Inside, inside-made, inside-on, window-ends, pass-inside}
+use Rattle.packet.proofs.Window.{own-part}
 use Rattle.packet.proofs.Own.{accepted-at, accepted-fits}
 use Rattle.packet.proofs.Longer.{answer-longer, from-to, pass-elsewhere}
 use Rattle.recording.specs.Reading.{Reading, stopped, ahead, reading, readRecording}
 use Rattle.recording.specs.declared.Recording.{Recording}
-use Rattle.recording.proofs.Readings.{from, from-end, from-on, from-stops, reading-inside}
+use Rattle.recording.proofs.Readings.{from, joined, from-end, from-on, from-stops, reading-inside}
 use Rattle.promises.specs.Handed.{lengthOf, Within, HandsOut}
-use Rattle.promises.specs.Ahead.{Waits, inRecording, seen, Seen, refusedIn}
-use Rattle.promises.proofs.HandedOut.{answer, accepted-here, refused-here, inside-within, hands-out, hands-out-once, window-behind}
+use Rattle.promises.specs.Ahead.{waiting, Waits, inRecording, bytesIn, seen, refusedIn}
+use Rattle.promises.proofs.HandedOut.{answer, accepted-here, refused-here, inside-within, hands-out, hands-out-once, window-behind, window-longer}
+use Rattle.promises.proofs.Members.{among-one}
 use Rattle.promises.proofs.Refusing.{bytesLines, allLines, number-is}
 
 -- ---- one packet
@@ -50,23 +49,13 @@ module _ (buf : List ℕ) (s e base : ℕ) (in-buf : Inside buf s e base) where
   pub told-frame : (n : ℕ) → n ≢ 0 → first (frameLines (window buf s e)) ≡ n → packetTold (readPacket buf s e base) .refusal .number ≡ n
   told-frame n some q = told-first ∙ sym (stage-some (frameLines (window buf s e)) _ n (sym q) some)
 
--- a window that begins further on is in its buffer too, and its base is moved on as far
-pub inside-on : (buf : List ℕ) (s e base n : ℕ) → Inside buf s e base → s + n ≤ e → Inside buf (s + n) e (base + n)
-inside-on buf s e base n i h = record { ordered = h; within = i .within; fits = omega (arith, i .fits, h) }
-
 -- filled further
 module _ (buf : List ℕ) (s e e′ base : ℕ) (in-buf : Inside buf s e base) (in-further : Inside buf s e′ base) (longer : e ≤ e′) where
-  pub window-longer : window buf s e′ ≡ window buf s e ++ part buf e (e′ - e)
-  window-longer =
-      let both : e′ - s ≡ e - s + (e′ - e) = omega (arith, in-buf .ordered) in
-      let there : s + (e - s) ≡ e = omega (arith, in-buf .ordered) in
-      ap (part buf s) both ∙ part-add buf s (e - s) (e′ - e) ∙ ap (λ (x : ℕ). window buf s e ++ part buf x (e′ - e)) there
-
   -- what is told of the first window, 2 and 10 apart, is told of the second
   pub read-longer : packetTold (readPacket buf s e base) .refusal .number ≢ 2 → packetTold (readPacket buf s e base) .refusal .number ≢ 10
       → readPacket buf s e′ base ≡ readPacket buf s e base
   read-longer not-2 not-10 =
-      read-bytes buf s e′ base in-further ∙ rw window-longer
+      read-bytes buf s e′ base in-further ∙ rw (window-longer buf s e e′ (in-buf .ordered) longer)
       (answer-longer (window buf s e) (part buf e (e′ - e)) s
       (λ q. not-2 (told-frame buf s e base in-buf 2 (λ (z : _≡_ {A = ℕ} 2 0). omega arith) q))
       (λ q. not-10 (told-frame buf s e base in-buf 10 (λ (z : _≡_ {A = ℕ} 10 0). omega arith) q))
@@ -75,16 +64,11 @@ module _ (buf : List ℕ) (s e e′ base : ℕ) (in-buf : Inside buf s e base) (
 
 -- ---- a recording, filled further
 
--- packets ahead of what is read from their end on
-abbrev pub aheadAll : List Packet → Reading → Reading
-aheadAll [] r = r
-aheadAll (p ∷ ps) r = ahead p (aheadAll ps r)
-
 module _ (buf : List ℕ) (e e′ : ℕ) (longer : e ≤ e′) where
   -- the second hands out what the first does, and reads on from there
   abbrev ReadsOn : ℕ → ℕ → Type 0
   ReadsOn s base =
-      from buf s e′ base ≡ aheadAll (from buf s e base .packets) (from buf (from buf s e base .reached) e′ (from buf s e base .«recording_reached»))
+      from buf s e′ base ≡ joined (from buf s e base .packets) (from buf (from buf s e base .reached) e′ (from buf s e base .«recording_reached»))
 
   reads-on-to : (turns s base : ℕ) → e - s ≤ turns → Inside buf s e base → Inside buf s e′ base → ReadsOn s base
   reads-on-to zero s base t i i′ = rw (from-end buf s e base (omega arith)) refl
@@ -109,7 +93,7 @@ module _ (buf : List ℕ) (e e′ : ℕ) (longer : e ≤ e′) where
 -- ---- the same bytes elsewhere
 
 -- an answer by its places in the recording
-abbrev inRead : PacketRead → PacketRead
+abbrev pub inRead : PacketRead → PacketRead
 inRead (Accepted p) = Accepted (inRecording p)
 inRead (Refused r) = Refused (refusedIn r)
 
@@ -147,9 +131,9 @@ answer-elsewhere w at to base = rw (pass-elsewhere w at to) (go (passBytes w at)
         let place : base + (r .place - at) ≡ base + (to + (r .place - at) - to) = omega arith in
         λ i. Refused (record { number = r .number; place = place i; room = r .room; reason = r .reason; «recording_place» = place i })
 
-pub read-elsewhere : (a b : List ℕ) (s e s′ e′ base : ℕ) → Inside a s e base → Inside b s′ e′ base → window a s e ≡ window b s′ e′
+pub answers-elsewhere : (a b : List ℕ) (s e s′ e′ base : ℕ) → Inside a s e base → Inside b s′ e′ base → window a s e ≡ window b s′ e′
     → inRead (readPacket a s e base) ≡ inRead (readPacket b s′ e′ base)
-read-elsewhere a b s e s′ e′ base i i′ same =
+answers-elsewhere a b s e s′ e′ base i i′ same =
     rw (read-bytes a s e base i, read-bytes b s′ e′ base i′, same) (answer-elsewhere (window b s′ e′) s s′ base)
 
 -- two readings that tell the same of the recording
@@ -159,13 +143,12 @@ pub record SameFrom (a b : List ℕ) (r r′ : Reading) : Type 0 where
   pub refusal : refusedIn (r .refusal) ≡ refusedIn (r′ .refusal)
 
 -- the bytes of an accepted packet, by its place, are the first ones of its window
-own-part : (buf : List ℕ) (s e base : ℕ) (p : Packet) → readPacket buf s e base ≡ Accepted p → part buf (p .header .at) (p .length) ≡ take (p .length) (window buf s e)
+bytes-there : (buf : List ℕ) (s e base : ℕ) (p : Packet) → readPacket buf s e base ≡ Accepted p → bytesIn buf p ≡ take (p .length) (window buf s e)
 unfolding packetIn
-own-part buf s e base p q =
-    let a = accepted-at buf s e base p q in
+bytes-there buf s e base p q =
     let k = accepted-fits buf s e base p q in
-    let at : p .header .at ≡ s = ap (λ (x : Packet). x .header .at) (a .packet) in
-    rw at (sym (take-take (p .length) (e - s) (drop s buf) (omega (arith, k .within))))
+    let at : p .header .at ≡ s = ap (λ (x : Packet). x .header .at) (accepted-at buf s e base p q .packet) in
+    rw at (own-part buf s e (p .length) (omega (arith, k .within)))
 
 module _ (a b : List ℕ) (e e′ : ℕ) where
   alike-to : (turns s s′ base : ℕ) → e - s ≤ turns → Inside a s e base → Inside b s′ e′ base → window a s e ≡ window b s′ e′ → SameFrom a b (from a s e base) (from b s′ e′ base)
@@ -174,7 +157,7 @@ module _ (a b : List ℕ) (e e′ : ℕ) where
       rw (from-end a s e base (omega arith), from-end b s′ e′ base (omega (arith, long, window-ends a s e base i)))
       (record { packets = refl; reached = refl; refusal = refl })
   alike-to (suc turns) s s′ base t i i′ same =
-      go (alike-to turns) (leb e s) (readPacket a s e base) (readPacket b s′ e′ base) refl refl refl (read-elsewhere a b s e s′ e′ base i i′ same)
+      go (alike-to turns) (leb e s) (readPacket a s e base) (readPacket b s′ e′ base) refl refl refl (answers-elsewhere a b s e s′ e′ base i i′ same)
       (rw same (window-ends b s′ e′ base i′))
     where
       go : ((s s′ base : ℕ) → e - s ≤ turns → Inside a s e base → Inside b s′ e′ base → window a s e ≡ window b s′ e′ → SameFrom a b (from a s e base) (from b s′ e′ base))
@@ -188,8 +171,7 @@ module _ (a b : List ℕ) (e e′ : ℕ) where
           let k′ = accepted-fits b s′ e′ base p′ q′ in
           let alike : inRecording p ≡ inRecording p′ = cc (rw (q, q′) at is) in
           let n : p .length ≡ p′ .length = ap (λ (x : Packet). x .length) alike in
-          let bytes : part a (p .header .at) (p .length) ≡ part b (p′ .header .at) (p′ .length) =
-          own-part a s e base p q ∙ rw (same, n) (sym (own-part b s′ e′ base p′ q′)) in
+          let bytes : bytesIn a p ≡ bytesIn b p′ = bytes-there a s e base p q ∙ rw (same, n) (sym (bytes-there b s′ e′ base p′ q′)) in
           let behind : window a (s + p .length) e ≡ window b (s′ + p′ .length) e′ =
           sym (window-behind a s (p .length) e) ∙ rw (same, n) (window-behind b s′ (p′ .length) e′) in
           let next : SameFrom a b (from a (s + p .length) e (base + p .length)) (from b (s′ + p′ .length) e′ (base + p .length)) =
@@ -236,17 +218,6 @@ module _ (buf : List ℕ) (s e base : ℕ) (i : Inside buf s e base) where
       let within : Within buf s e base = (i .ordered, i .within, omega (arith, i .fits)) in
       (n, h .covers, h .recorded, ⊎-elim (λ f. omega (arith, h .covers, f .1)) (λ f. omega (arith, h .covers, f .2 within)) (h .ends))
 
--- packets ahead of the place reached and the refusal there are the reading itself
-ahead-stopped : (ps : List Packet) (at base : ℕ) (r : Refusal)
-    → aheadAll ps (stopped at base r) ≡ record { packets = ps; reached = at; «recording_reached» = base; refusal = r }
-ahead-stopped [] at base r = refl
-ahead-stopped (p ∷ ps) at base r = ap (λ (x : Reading). ahead p x) (ahead-stopped ps at base r)
-
-pub ahead-told : (ps : List Packet) (x : Reading)
-    → aheadAll ps x ≡ record { packets = ps ++ x .packets; reached = x .reached; «recording_reached» = x .«recording_reached»; refusal = x .refusal }
-ahead-told [] x = refl
-ahead-told (p ∷ ps) x = ap (λ (r : Reading). ahead p r) (ahead-told ps x)
-
 module _ (buf : List ℕ) (s e e′ base : ℕ) (i : Inside buf s e base) (i′ : Inside buf s e′ base) (longer : e ≤ e′) where
   -- what can't wait stands
   pub from-decided : ¬ Waits (answer (from buf s e base)) → from buf s e′ base ≡ from buf s e base
@@ -257,15 +228,15 @@ module _ (buf : List ℕ) (s e e′ base : ℕ) (i : Inside buf s e base) (i′ 
       let at : Inside buf (r .reached) e (r .«recording_reached») = rw (c .1, c .2) (inside-on buf s e base (c .0) i (c .3)) in
       let at′ : Inside buf (r .reached) e′ (r .«recording_reached») = rw (c .1, c .2) (inside-on buf s e′ base (c .0) i′ (omega (arith, c .3))) in
       ⊎-elim
-      (λ f. absurd (stands (inl (ap (λ (x : Refusal). x .number) (f .2)))))
+      (λ f. absurd (stands (rw (f .2) (among-one 0 waiting refl))))
       (λ f.
       let number : packetTold (readPacket buf (r .reached) e (r .«recording_reached»)) .refusal .number ≡ r .refusal .number = ap (λ (x : Refusal). x .number) (f .0) in
       let again : readPacket buf (r .reached) e′ (r .«recording_reached») ≡ Refused (r .refusal) =
-      read-longer buf (r .reached) e e′ (r .«recording_reached») at at′ longer (λ z. stands (inr (inl (sym number ∙ z)))) (λ z. stands (inr (inr (inl (sym number ∙ z)))))
+      read-longer buf (r .reached) e e′ (r .«recording_reached») at at′ longer (λ z. stands (rw (sym number ∙ z) (among-one 2 waiting refl))) (λ z. stands (rw (sym number ∙ z) (among-one 10 waiting refl)))
       ∙ refused-here buf e (r .reached) (r .«recording_reached») (r .refusal) (f .0) (f .1) in
       reads-on buf e e′ longer s base i i′
-      ∙ ap (aheadAll (r .packets)) (from-stops buf (r .reached) e′ (r .«recording_reached») (r .refusal) (omega (arith, c .1, c .3, f .2 (inside-within buf s e base (inside-made buf s e base i)))) again)
-      ∙ ahead-stopped (r .packets) (r .reached) (r .«recording_reached») (r .refusal))
+      ∙ ap (joined (r .packets)) (from-stops buf (r .reached) e′ (r .«recording_reached») (r .refusal) (omega (arith, c .1, c .3, f .2 (inside-within buf s e base (inside-made buf s e base i)))) again)
+      ∙ (λ j. record { packets = append-nil (r .packets) j; reached = r .reached; «recording_reached» = r .«recording_reached»; refusal = r .refusal }))
       (h .ends)
 
 -- packets that are handed out are longer than nothing

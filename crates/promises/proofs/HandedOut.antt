@@ -1,6 +1,6 @@
 -- Demand 1: a recording hands out what the one-packet reader accepts, place by place, and nothing outside its window has a say.
 use mathlib.Core.Path.{_≡_, refl, sym, ap, _∙_}
-use mathlib.Core.List.{List, [], _∷_}
+use mathlib.Core.List.{List, [], _∷_, _++_}
 use mathlib.Core.Bool.{Bool, true, false, true≢false}
 use mathlib.Core.Logic.{_⊎_, inl, inr, ⊎-elim, _≢_}
 use Prim.Native.Nat.{ℕ, zero, suc, _+_, _-_, _≤_, _<_}
@@ -10,8 +10,9 @@ use lib.ListN.{length, take, drop, getD}
 use lib.Seq.{drop-drop}
 use lib.Dec.{leb}
 use borrow.Author.Tests.{leb-true, leb-false}
+use Rattle.units.specs.Units.{part}
 use Rattle.units.specs.Choice.{pick}
-use Rattle.units.proofs.Parts.{drop-take}
+use Rattle.units.proofs.Parts.{drop-take, part-add}
 use Rattle.terms.specs.Refusals.{refused, noRefusal, recorded}
 use Rattle.terms.specs.declared.Refusal.{Refusal}
 use Rattle.packet.specs.Read.{inside, window, readPacket, noPacket, PacketTold, packetTold}
@@ -249,6 +250,13 @@ window-behind a at n e =
 
 pub same-behind : (a b : List ℕ) (at n e : ℕ) → window a at e ≡ window b at e → window a (at + n) e ≡ window b (at + n) e
 same-behind a b at n e same = sym (window-behind a at n e) ∙ ap (λ (w : List ℕ). drop n w) same ∙ window-behind b at n e
+
+-- a window that is filled further
+pub window-longer : (a : List ℕ) (at e e′ : ℕ) → at ≤ e → e ≤ e′ → window a at e′ ≡ window a at e ++ part a e (e′ - e)
+window-longer a at e e′ ordered longer =
+    let both : e′ - at ≡ e - at + (e′ - e) = omega arith in
+    let there : at + (e - at) ≡ e = omega arith in
+    ap (part a at) both ∙ part-add a at (e - at) (e′ - e) ∙ ap (λ (x : ℕ). window a at e ++ part a x (e′ - e)) there
 
 -- two buffers that reach to the end, with the same bytes from a place to it
 module _ (a b : List ℕ) (e : ℕ) (in-a : e ≤ length a) (in-b : e ≤ length b) where

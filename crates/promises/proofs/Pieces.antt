@@ -1,36 +1,33 @@
 -- Reading ahead: a recording in pieces is read as in one, and the reading ends.
 use mathlib.Core.Path.{_≡_, refl, sym, ap, subst, _∙_}
-use mathlib.Core.List.{List, [], _∷_, _++_, map, append-assoc}
+use mathlib.Core.List.{List, [], _∷_, _++_, map, append-assoc, map-append}
 use mathlib.Core.Bool.{Bool, true, false, false≢true}
-use mathlib.Core.Logic.{_⊎_, inl, inr, ⊎-elim, _≢_}
+use mathlib.Core.Logic.{_⊎_, inl, inr, ⊎-elim}
 use Prim.Native.Nat.{ℕ, zero, suc, _+_, _-_, _≤_, _<_}
 use native.Mathlib.Omega.{arith}
-use lib.ListN.{length}
+use native.Mathlib.Nat.{add-zero}
+use lib.ListN.{length, take, length-append, length-map}
+use lib.Seq.{take-at}
 use lib.Dec.{eqb}
 use borrow.Author.Tests.{eqb-true, eqb-false}
 use Rattle.units.specs.Units.{part}
 use Rattle.terms.specs.declared.Refusal.{Refusal}
-use Rattle.packet.specs.Read.{window}
 use Rattle.packet.specs.declared.Packet.{Packet}
-use Rattle.packet.proofs.Passes.{Inside}
+use Rattle.packet.proofs.Passes.{Inside, inside-on}
 use Rattle.recording.specs.Reading.{Reading, readRecording}
 use Rattle.recording.specs.declared.Recording.{Recording}
-use Rattle.recording.proofs.Readings.{from}
-use Rattle.promises.specs.Handed.{lengthOf, Within, HandsOut}
-use Rattle.promises.specs.Ahead.{waiting, Waits, Seen, seen, refusedIn, Piece, answer, HoldsRest, Last, seenIn, InPieces}
+use Rattle.recording.proofs.Readings.{from, joined}
+use Rattle.promises.specs.Handed.{lengthOf, HandsOut}
+use Rattle.promises.specs.Ahead.{waiting, Waits, Seen, seen, refusedIn, SameTold, Piece, answer, Last, seenIn, acceptedIn, InTurn, Onward, Ends}
 use Rattle.promises.specs.Refusals.{OneOf}
 use Rattle.promises.proofs.HandedOut as handed
 use Rattle.promises.proofs.HandedOut.{within-inside}
 use Rattle.promises.proofs.Members.{among, among-one, one-among}
-use Rattle.promises.proofs.Further.{inside-on, aheadAll, reads-on, SameFrom, from-elsewhere, recording-from, handed-from, packets-from, some-length, come, ahead-told, from-decided}
-
-map-append : {A B : Type 0} (f : A → B) (xs ys : List A) → map f (xs ++ ys) ≡ map f xs ++ map f ys
-map-append f [] ys = refl
-map-append f (x ∷ xs) ys = ap (λ (zs : List _). f x ∷ zs) (map-append f xs ys)
+use Rattle.promises.proofs.Further.{reads-on, SameFrom, from-elsewhere, recording-from, packets-from, some-length, come, from-decided}
 
 module _ (whole : List ℕ) (start end base : ℕ) (i : Inside whole start end base) where
-  abbrev Pieces : Type 0
-  Pieces = Piece whole start end base
+  abbrev One : Type 0
+  One = Piece whole start end base
 
   -- what is read of the whole from so far behind its start on
   abbrev rest : ℕ → Reading
@@ -38,7 +35,7 @@ module _ (whole : List ℕ) (start end base : ℕ) (i : Inside whole start end b
 
   -- ---- one window
 
-  module _ (x : Pieces) where
+  module _ (x : One) where
     abbrev long : ℕ
     long = x .to - x .from
 
@@ -74,7 +71,7 @@ module _ (whole : List ℕ) (start end base : ℕ) (i : Inside whole start end b
     seen-there = ap (map (seen (x .buf))) packets-own ∙ own-there .packets
 
     -- the whole is read on from where the window stops
-    on : (d : ℕ) → base + d ≡ answer x .«recording_reached» → rest (x .distance) ≡ aheadAll (there .packets) (rest d)
+    on : (d : ℕ) → base + d ≡ answer x .«recording_reached» → rest (x .distance) ≡ joined (there .packets) (rest d)
     on d next =
         let c = come whole (start + x .distance) (start + x .distance + long) (base + x .distance) there-inside in
         let stop : answer x .«recording_reached» ≡ base + x .distance + c .0 = ap (λ (r : Recording). r .«recording_reached») answer-own ∙ own-there .reached ∙ c .2 in
@@ -84,7 +81,7 @@ module _ (whole : List ℕ) (start end base : ℕ) (i : Inside whole start end b
         (reads-on whole (start + x .distance + long) end (x .fits) (start + x .distance) (base + x .distance) there-inside rest-inside)
 
     -- how far it comes
-    pub steps : (k : ℕ) × (answer x .«recording_reached» ≡ base + x .distance + k) × (x .distance + k ≤ end - start)
+    steps : (k : ℕ) × (answer x .«recording_reached» ≡ base + x .distance + k) × (x .distance + k ≤ end - start)
     steps =
         let c = come whole (start + x .distance) (start + x .distance + long) (base + x .distance) there-inside in (
           c .0,
@@ -110,18 +107,17 @@ module _ (whole : List ℕ) (start end base : ℕ) (i : Inside whole start end b
     reached : rest 0 .«recording_reached» ≡ rest d .«recording_reached»
     refusal : rest 0 .refusal ≡ rest d .refusal
 
-  module _ (piece : ℕ → Pieces) where
+  module _ (piece : ℕ → One) where
     none-yet : piece 0 .distance ≡ 0 → Then (seenIn piece 0) (piece 0 .distance)
     unfolding seenIn
     none-yet first = rw first (record { told = refl; reached = refl; refusal = refl })
 
-    one-more : (m : ℕ) → Then (seenIn piece m) (piece m .distance) → base + piece (suc m) .distance ≡ answer (piece m) .«recording_reached»
-        → Then (seenIn piece (suc m)) (piece (suc m) .distance)
+    -- a window, and what is read from where it stops
+    one-more : (m d : ℕ) → Then (seenIn piece m) (piece m .distance) → base + d ≡ answer (piece m) .«recording_reached» → Then (seenIn piece (suc m)) d
     unfolding seenIn
-    one-more m before next =
-        let d = piece (suc m) .distance in
+    one-more m d before next =
         let x = piece m in
-        let go-on = on x d next ∙ ahead-told (there x .packets) (rest d) in
+        let go-on = on x d next in
         let packets : map (seen whole) (rest (x .distance) .packets) ≡ map (seen (x .buf)) (x .packets) ++ map (seen whole) (rest d .packets) =
         ap (λ (r : Reading). map (seen whole) (r .packets)) go-on ∙ map-append (seen whole) (there x .packets) (rest d .packets)
         ∙ ap (λ (l : List Seen). l ++ map (seen whole) (rest d .packets)) (sym (seen-there x)) in
@@ -133,35 +129,67 @@ module _ (whole : List ℕ) (start end base : ℕ) (i : Inside whole start end b
           refusal = before .refusal ∙ ap (λ (r : Reading). r .refusal) go-on;
         }
 
-    up-to : (n : ℕ) → piece 0 .distance ≡ 0 → ((k : ℕ) → k < n → base + piece (suc k) .distance ≡ answer (piece k) .«recording_reached»)
-        → Then (seenIn piece n) (piece n .distance)
-    up-to zero first next = none-yet first
-    up-to (suc n) first next = one-more n (up-to n first (λ k l. next k (omega (arith, l)))) (next n (omega arith))
+    up-to : (n : ℕ) → InTurn piece n → Then (seenIn piece n) (piece n .distance)
+    up-to zero turn = none-yet (turn .first)
+    up-to (suc n) turn =
+        one-more n (piece (suc n) .distance) (up-to n (record { first = turn .first; next = λ k l. turn .next k (omega (arith, l)) })) (turn .next n (omega arith))
 
-    pub told-in-one : (n : ℕ) → InPieces piece n → (qs : List Packet) → HandsOut whole start end base (readRecording whole start end base) qs
-        → (seenIn piece (suc n) ≡ map (seen whole) qs)
-        × (answer (piece n) .«recording_reached» ≡ readRecording whole start end base .«recording_reached»)
-        × (refusedIn (answer (piece n) .refusal) ≡ refusedIn (readRecording whole start end base .refusal))
-    unfolding seenIn
-    told-in-one n p qs h =
-        let x = piece n in
-        let before = up-to n (p .first) (p .next) in
-        let last = last-told x (p .last) in
+    -- the whole's packets are those that are read from its start on
+    packets-whole : (qs : List Packet) → HandsOut whole start end base (readRecording whole start end base) qs → qs ≡ rest 0 .packets
+    packets-whole qs h =
         let here : start + 0 ≡ start = omega arith in
         let base-here : base + 0 ≡ base = omega arith in
-        let packets : qs ≡ rest 0 .packets = rw (here, base-here) (packets-from whole start end base i _ qs h) in
+        rw (here, base-here) (packets-from whole start end base i _ qs h)
+
+    pub told-so-far : (n : ℕ) → InTurn piece n → (qs : List Packet) → HandsOut whole start end base (readRecording whole start end base) qs
+        → take (length (seenIn piece (suc n))) (map (seen whole) qs) ≡ seenIn piece (suc n)
+    told-so-far n turn qs h =
+        let s = steps (piece n) in
+        let stop : base + (piece n .distance + s .0) ≡ answer (piece n) .«recording_reached» = omega (arith, s .1) in
+        let all = one-more n (piece n .distance + s .0) (up-to n turn) stop in
+        ap (λ (l : List Packet). take (length (seenIn piece (suc n))) (map (seen whole) l)) (packets-whole qs h)
+        ∙ ap (take (length (seenIn piece (suc n)))) (all .told)
+        ∙ take-at (seenIn piece (suc n)) _ (length (seenIn piece (suc n))) refl
+
+    -- as many are seen as are accepted
+    seen-accepted : (n : ℕ) → length (seenIn piece n) ≡ acceptedIn piece n
+    unfolding seenIn acceptedIn
+    seen-accepted zero = refl
+    seen-accepted (suc n) =
+        let x = piece n in
+        length-append (seenIn piece n) (map (seen (x .buf)) (x .packets))
+        ∙ omega (arith, seen-accepted n, length-map (x .packets) (seen (x .buf)), x .handed .number)
+
+    pub told-in-one : (n : ℕ) → InTurn piece n → Last (piece n) → (qs : List Packet) → HandsOut whole start end base (readRecording whole start end base) qs
+        → SameTold (seenIn piece (suc n)) (map (seen whole) qs) (answer (piece n)) (readRecording whole start end base)
+        × (acceptedIn piece (suc n) ≡ readRecording whole start end base .accepted)
+    unfolding seenIn
+    told-in-one n turn ended qs h =
+        let x = piece n in
+        let before = up-to n turn in
+        let last = last-told x ended in
+        let here : start + 0 ≡ start = omega arith in
+        let base-here : base + 0 ≡ base = omega arith in
         let all : readRecording whole start end base ≡ handed.answer (rest 0) = rw (here, base-here) (recording-from whole start end base i) in
-        let own-packets : map (seen (x .buf)) (x .packets) ≡ map (seen whole) (rest (x .distance) .packets) = ap (map (seen (x .buf))) (packets-own x) ∙ last .packets in (
-          ap (λ (l : List Seen). seenIn piece n ++ l) own-packets ∙ sym (before .told) ∙ ap (map (seen whole)) (sym packets),
-          ap (λ (r : Recording). r .«recording_reached») (answer-own x) ∙ last .reached ∙ sym (before .reached) ∙ sym (ap (λ (r : Recording). r .«recording_reached») all),
-          ap (λ (r : Recording). refusedIn (r .refusal)) (answer-own x) ∙ last .refusal ∙ ap refusedIn (sym (before .refusal))
-              ∙ sym (ap (λ (r : Recording). refusedIn (r .refusal)) all),
+        let own-packets : map (seen (x .buf)) (x .packets) ≡ map (seen whole) (rest (x .distance) .packets) = ap (map (seen (x .buf))) (packets-own x) ∙ last .packets in
+        let packets : seenIn piece (suc n) ≡ map (seen whole) qs =
+        ap (λ (l : List Seen). seenIn piece n ++ l) own-packets ∙ sym (before .told) ∙ ap (map (seen whole)) (sym (packets-whole qs h)) in (
+          record {
+            packets = packets;
+            recorded =
+                ap (λ (r : Recording). r .«recording_reached») (answer-own x) ∙ last .reached ∙ sym (before .reached)
+                ∙ sym (ap (λ (r : Recording). r .«recording_reached») all);
+            refusal =
+                ap (λ (r : Recording). refusedIn (r .refusal)) (answer-own x) ∙ last .refusal ∙ ap refusedIn (sym (before .refusal))
+                ∙ sym (ap (λ (r : Recording). refusedIn (r .refusal)) all);
+          },
+          sym (seen-accepted (suc n)) ∙ ap length packets ∙ length-map qs (seen whole) ∙ sym (h .number),
         )
 
     -- ---- the reading ends
 
     -- whether a window is the last is a matter of numbers
-    last-or-not : (x : Pieces) → Last x ⊎ (¬ Last x)
+    last-or-not : (x : One) → Last x ⊎ (¬ Last x)
     last-or-not x = go (eqb (start + x .distance + long x) end) refl (among (answer x .refusal .number) waiting) refl
       where
         go : (b : Bool) → eqb (start + x .distance + long x) end ≡ b → (w : Bool) → among (answer x .refusal .number) waiting ≡ w → Last x ⊎ (¬ Last x)
@@ -170,17 +198,24 @@ module _ (whole : List ℕ) (start end base : ℕ) (i : Inside whole start end b
         go false h true q =
             inr (⊎-elim (eqb-false (start + x .distance + long x) end h) (λ stands. stands (among-one (answer x .refusal .number) waiting q)))
 
-    -- a window that accepts a packet comes further
-    further-on : (x : Pieces) → 1 ≤ answer x .accepted → base + x .distance < answer x .«recording_reached»
-    further-on x some =
-        let h : HandsOut (x .buf) (x .from) (x .to) (base + x .distance) (handed.answer (own x)) (own x .packets) =
-        handed-from (x .buf) (x .from) (x .to) (base + x .distance) (own-inside x) in
-        let count : 1 ≤ length (own x .packets) = omega (arith, some, ap (λ (r : Recording). r .accepted) (answer-own x)) in
-        let reached : answer x .«recording_reached» ≡ base + x .distance + lengthOf (own x .packets) =
-        ap (λ (r : Recording). r .«recording_reached») (answer-own x) ∙ h .recorded in
-        omega (arith, reached, some-length (x .buf) (x .from) (x .to) (base + x .distance) (handed.answer (own x)) (own x .packets) h count)
+    -- a window comes as far as its packets are long
+    comes : (x : One) → answer x .«recording_reached» ≡ base + x .distance + lengthOf (x .packets)
+    comes x = x .handed .recorded
 
-    module _ (first : piece 0 .distance ≡ 0) (next : (k : ℕ) → ¬ Last (piece k) → base + piece (suc k) .distance ≡ answer (piece k) .«recording_reached») where
+    -- one that accepts a packet comes further, one that accepts none doesn't
+    further-on : (x : One) → 1 ≤ answer x .accepted → base + x .distance < answer x .«recording_reached»
+    further-on x some =
+        omega (arith, comes x, some-length (x .buf) (x .from) (x .to) (base + x .distance) (answer x) (x .packets) (x .handed) (omega (arith, some, x .handed .number)))
+
+    stays : (x : One) → answer x .accepted ≡ 0 → answer x .«recording_reached» ≡ base + x .distance
+    unfolding lengthOf
+    stays x none = go (x .packets) (comes x) (sym (x .handed .number) ∙ none)
+      where
+        go : (ps : List Packet) → answer x .«recording_reached» ≡ base + x .distance + lengthOf ps → length ps ≡ 0 → answer x .«recording_reached» ≡ base + x .distance
+        go [] q z = q ∙ add-zero (base + x .distance)
+        go (p ∷ ps) q z = absurd (omega (arith, z))
+
+    module _ (onward : Onward piece) where
       -- the first so many windows are not the last
       abbrev None : ℕ → Type 0
       None n = (k : ℕ) → k < n → ¬ Last (piece k)
@@ -204,15 +239,15 @@ module _ (whole : List ℕ) (start end base : ℕ) (i : Inside whole start end b
               (go m)
 
       -- so long as none is the last, they don't go back
-      onward : (m n : ℕ) → m ≤ n → None n → piece m .distance ≤ piece n .distance
-      onward m zero l none = let same : m ≡ 0 = omega (arith, l) in rw same (omega arith)
-      onward m (suc n) l none = go (eqb m (suc n)) refl (λ h. onward m n h (λ k q. none k (omega (arith, q))))
+      not-back : (m n : ℕ) → m ≤ n → None n → piece m .distance ≤ piece n .distance
+      not-back m zero l none = let same : m ≡ 0 = omega (arith, l) in rw same (omega arith)
+      not-back m (suc n) l none = go (eqb m (suc n)) refl (λ h. not-back m n h (λ k q. none k (omega (arith, q))))
         where
           go : (b : Bool) → eqb m (suc n) ≡ b → (m ≤ n → piece m .distance ≤ piece n .distance) → piece m .distance ≤ piece (suc n) .distance
           go true h before = rw (eqb-true m (suc n) h) (omega arith)
           go false h before =
               let s = steps (piece n) in
-              omega (arith, before (omega (arith, l, eqb-false m (suc n) h)), s .1, next n (none n (omega arith)))
+              omega (arith, before (omega (arith, l, eqb-false m (suc n) h)), s .1, onward .next n (none n (omega arith)))
 
       to-end : ((k : ℕ) → (j : ℕ) × (k ≤ j) × (Last (piece j) ⊎ (1 ≤ answer (piece j) .accepted)))
           → (left k : ℕ) → end - start < piece k .distance + left → (n : ℕ) × None n × Last (piece n)
@@ -224,12 +259,33 @@ module _ (whole : List ℕ) (start end base : ℕ) (i : Inside whole start end b
           ⊎-elim (λ last. absurd (none (m .0) (omega arith) last))
           (λ some.
           let further = further-on (piece (m .0)) some in
-          let after = next (m .0) (none (m .0) (omega arith)) in
-          to-end moves left (suc (m .0)) (omega (arith, l, further, after, onward k (m .0) (m .1) (λ q h. none q (omega (arith, h))))))
+          let after = onward .next (m .0) (none (m .0) (omega arith)) in
+          to-end moves left (suc (m .0)) (omega (arith, l, further, after, not-back k (m .0) (m .1) (λ q h. none q (omega (arith, h))))))
           (m .2))
           (to-last (m .0))
 
-      pub ends-in : ((k : ℕ) → (j : ℕ) × (k ≤ j) × (Last (piece j) ⊎ (1 ≤ answer (piece j) .accepted))) → (n : ℕ) × InPieces piece n
+      pub ends-in : ((k : ℕ) → (j : ℕ) × (k ≤ j) × (Last (piece j) ⊎ (1 ≤ answer (piece j) .accepted))) → Ends piece
       ends-in moves =
           let found = to-end moves (suc (end - start)) 0 (omega arith) in
-          (found .0, record { first = first; next = λ k l. next k (found .1 k l); last = found .2 })
+          (found .0, record { first = onward .first; next = λ k l. onward .next k (found .1 k l) }, found .2)
+
+      -- a window that accepts no packet is followed by a longer one at its place, until one holds the whole rest
+      module _ (grow : (k : ℕ) → ¬ Last (piece k) → answer (piece k) .accepted ≡ 0 → long (piece k) < long (piece (suc k))) where
+        grown : (left k : ℕ) → end - (start + piece k .distance + long (piece k)) ≤ left → (j : ℕ) × (k ≤ j) × (Last (piece j) ⊎ (1 ≤ answer (piece j) .accepted))
+        grown zero k l = (k, omega arith, inl (inl (omega (arith, l, piece k .fits))))
+        grown (suc left) k l = go (last-or-not (piece k)) (eqb (answer (piece k) .accepted) 0) refl (grown left (suc k))
+          where
+            go : Last (piece k) ⊎ (¬ Last (piece k)) → (b : Bool) → eqb (answer (piece k) .accepted) 0 ≡ b
+                → (end - (start + piece (suc k) .distance + long (piece (suc k))) ≤ left
+                → (j : ℕ) × (suc k ≤ j) × (Last (piece j) ⊎ (1 ≤ answer (piece j) .accepted)))
+                → (j : ℕ) × (k ≤ j) × (Last (piece j) ⊎ (1 ≤ answer (piece j) .accepted))
+            go (inl last) b h later = (k, omega arith, inl last)
+            go (inr other) false h later = (k, omega arith, inr (omega (arith, eqb-false (answer (piece k) .accepted) 0 h)))
+            go (inr other) true h later =
+                let none = eqb-true (answer (piece k) .accepted) 0 h in
+                let same : base + piece (suc k) .distance ≡ base + piece k .distance = onward .next k other ∙ stays (piece k) none in
+                let found = later (omega (arith, l, same, grow k other none, piece (suc k) .fits)) in
+                (found .0, omega (arith, found .1), found .2)
+
+        pub ends-grown : Ends piece
+        ends-grown = ends-in (λ k. grown (end - (start + piece k .distance + long (piece k))) k (omega arith))

@@ -5,7 +5,7 @@ use Prim.Native.Nat.{ℕ, _+_, _-_, _≤_, _<_}
 use native.Mathlib.Omega.{arith}
 use native.Mathlib.Nat.{add-zero}
 use lib.ListN.{length, take, drop, length-append, length-map}
-use lib.Seq.{take-at, drop-at, take-take}
+use lib.Seq.{take-at, drop-at}
 use Rattle.units.specs.Units.{part}
 use Rattle.terms.specs.Refusals.{refused, noRefusal}
 use Rattle.terms.specs.declared.Refusal.{Refusal}
@@ -14,9 +14,10 @@ use Rattle.packet.specs.Read.{window}
 use Rattle.frame.specs.Contents.{Contents}
 use Rattle.packet_bytes.specs.Bytes.{packetBytes}
 use Rattle.packet.specs.declared.Packet.{Packet}
-use Rattle.packet.proofs.Passes.{Inside, inside-made, window-ends, pass-framed-not, pass-inside, read-barred}
+use Rattle.packet.proofs.Passes.{Inside, inside-made, inside-on, window-ends, pass-framed-not, pass-inside, read-barred}
+use Rattle.packet.proofs.Window.{own-part}
 use Rattle.recording.specs.Reading.{Reading, stopped, ahead, reading, readRecording}
-use Rattle.recording.proofs.Readings.{from, from-end, from-on, from-stops, reading-inside}
+use Rattle.recording.proofs.Readings.{from, joined, from-end, from-on, from-stops, reading-inside}
 use Rattle.promises.proofs.HandedOut.{hands-out, window-behind}
 use Rattle.promises.specs.Contents.{Accepts, AllAccepted, nil, cons, written, contentsOf}
 use Rattle.promises.specs.Altered.{UnitOf, sync, primary, secondary, trailer, Altered}
@@ -49,7 +50,7 @@ module _ (buf : List ℕ) (end at base : ℕ) (in-buf : Inside buf at end base) 
 
   front-is : part buf at (length xs) ≡ xs
   front-is =
-      sym (take-take (length xs) (end - at) (drop at buf) (omega (arith, front-fits)))
+      own-part buf at end (length xs) (omega (arith, front-fits))
       ∙ ap (take (length xs)) holds
       ∙ take-at xs bs (length xs) refl
 
@@ -58,16 +59,11 @@ module _ (buf : List ℕ) (end at base : ℕ) (in-buf : Inside buf at end base) 
 
   -- behind them, with the base moved on as far
   back-in : Inside buf (at + length xs) end (base + length xs)
-  back-in =
-      record { ordered = front-fits; within = in-buf .within; fits = omega (arith, front-fits, in-buf .fits) }
+  back-in = inside-on buf at end base (length xs) in-buf front-fits
 
 -- ---- packets one behind the other
 
 module _ (buf : List ℕ) (end : ℕ) where
-  -- packets ahead of a reading
-  abbrev joined : List Packet → Reading → Reading
-  joined ps r = record { packets = ps ++ r .packets; reached = r .reached; «recording_reached» = r .«recording_reached»; refusal = r .refusal }
-
   record Front (at base : ℕ) (cs : List Contents) (bs : List ℕ) : Type 0 where
     packets : List Packet
     contents : map (contentsOf buf) packets ≡ cs
@@ -122,8 +118,8 @@ module _ (buf : List ℕ) (start end base : ℕ) (in-buf : Inside buf start end 
   unfolding readRecording
   reads-on refusal q =
       let ps = front .packets in
-      let e : reading buf start end base ≡ joined buf end ps (stopped reached recorded-reached refusal) =
-      reading-inside buf start end base (inside-made buf start end base in-buf) ∙ front .reads ∙ ap (joined buf end ps) q in
+      let e : reading buf start end base ≡ joined ps (stopped reached recorded-reached refusal) =
+      reading-inside buf start end base (inside-made buf start end base in-buf) ∙ front .reads ∙ ap (joined ps) q in
       let same : reading buf start end base .packets ≡ ps = ap (λ (r : Reading). r .packets) e ∙ append-nil ps in
       let count : length (reading buf start end base .packets) ≡ length cs = ap length same ∙ sym (length-map ps (contentsOf buf)) ∙ ap length (front .contents) in
       let answer : readRecording buf start end base ≡ answered cs reached recorded-reached refusal =

@@ -46,6 +46,15 @@ stage-other xs ys n above other q = go (eqb (first xs) 0) refl
         let is : first xs ≡ n = stage-some xs ys (first xs) refl (eqb-false (first xs) 0 h) ∙ q in
         absurd (false≢true (sym other ∙ one-among n (0 ∷ numbers xs) (rw is at (first-one xs))))
 
+pub stage-front : (xs ys : List Line) (n : ℕ) → T (numbered xs) → among n (0 ∷ numbers ys) ≡ false → first (xs ++ ys) ≡ n → first xs ≡ n
+stage-front xs ys n above other q = go (eqb (first xs) 0) refl
+  where
+    go : (t : Bool) → eqb (first xs) 0 ≡ t → first xs ≡ n
+    go true h =
+        let is : first ys ≡ n = sym (stage-none xs ys above (eqb-true (first xs) 0 h)) ∙ q in
+        absurd (false≢true (sym other ∙ one-among n (0 ∷ numbers ys) (rw is at (first-one ys))))
+    go false h = stage-some xs ys (first xs) refl (eqb-false (first xs) 0 h) ∙ q
+
 -- and so does a line whose rule is kept, if no line behind it has its number
 pub line-kept : (n : ℕ) (t : Bool) (lines : List Line) → t ≡ true → among n (0 ∷ numbers lines) ≡ false → first (line n t ∷ lines) ≢ n
 unfolding first

@@ -1,6 +1,6 @@
 -- The laws of reading a recording from a place on, and of the loop that counts its packets.
 use mathlib.Core.Path.{_≡_, refl, sym, ap, _∙_}
-use mathlib.Core.List.{List}
+use mathlib.Core.List.{List, _++_}
 use mathlib.Core.Bool.{Bool, true, false}
 use Prim.Native.Nat.{ℕ, zero, suc, _+_, _-_, _^_, _≤_, _<_}
 use native.Mathlib.Omega.{arith}
@@ -47,6 +47,10 @@ turns-enough (suc m) (suc n) buf at end base hm hn = go (λ next. turns-enough m
 -- what is read from `at` on, in turns enough
 abbrev pub from : List ℕ → ℕ → ℕ → ℕ → Reading
 from buf at end base = readFrom (end - at) buf at end base
+
+-- packets ahead of a reading
+abbrev pub joined : List Packet → Reading → Reading
+joined ps r = record { packets = ps ++ r .packets; reached = r .reached; «recording_reached» = r .«recording_reached»; refusal = r .refusal }
 
 module _ (buf : List ℕ) (at end base : ℕ) where
   from-step : from buf at end base ≡ readFrom (suc (end - at)) buf at end base

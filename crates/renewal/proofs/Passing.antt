@@ -2,12 +2,9 @@
 use mathlib.Core.Path.{_≡_, refl, sym, ap, _∙_}
 use mathlib.Core.List.{List}
 use mathlib.Core.Bool.{true}
-use Prim.Native.Nat.{ℕ, _+_, _-_, _≤_}
+use Prim.Native.Nat.{ℕ, _+_, _≤_}
 use native.Mathlib.Omega.{arith}
-use lib.ListN.{length, take}
-use lib.Seq.{take-take}
-use lib.ListN.{drop}
-use Rattle.units.specs.Units.{part}
+use lib.ListN.{length}
 use Rattle.terms.specs.Refusals.{recorded}
 use Rattle.terms.specs.declared.Refusal.{Refusal}
 use Rattle.frame.specs.Header.{packetLength}
@@ -75,7 +72,3 @@ module _ (buf : List ℕ) (s e base : ℕ) where
       go : (x : PacketRead) → readPacket buf s e base ≡ x → Barred r ≡ passOf x → readPacket buf s e base ≡ Refused r
       go (Accepted p) q g = let z : _≡_ {A = ℕ} 0 1 = cc g in absurd (omega arith)
       go (Refused f) q g = let same : f ≡ r = cc g in q ∙ ap Refused same
-
--- the packet's own bytes, in the buffer and in the window
-pub own-part : (buf : List ℕ) (s e n : ℕ) → n ≤ e - s → part buf s n ≡ take n (window buf s e)
-own-part buf s e n h = sym (take-take n (e - s) (drop s buf) h)

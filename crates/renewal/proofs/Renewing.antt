@@ -17,7 +17,8 @@ use Rattle.renewal.specs.declared.EntryRenewal.{EntryRenewal}
 use Rattle.renewal.specs.declared.EntryRenewal.the-variants.{Lives, Dropped, Unrenewed}
 use Rattle.renewal.specs.Table.{Entry, lengthOf, entry, slotOf}
 use Rattle.renewal.specs.Renewal.{barred, storeSmall, ownBytes, holds, judged, renewEntry, tableRenewed}
-use Rattle.renewal.proofs.Passing.{Taken, own-part}
+use Rattle.packet.proofs.Window.{own-part}
+use Rattle.renewal.proofs.Passing.{Taken}
 
 -- ---- the held bytes
 

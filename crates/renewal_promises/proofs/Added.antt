@@ -31,7 +31,7 @@ use Rattle.renewal.specs.Table.{entryOf, slotOf, homeOf}
 use Rattle.renewal.specs.Renewal.{barred, storeSmall, putAnswer, addRead, addEntry, entryIn, ownBytes, tableAdded, storeAdded, addTold}
 use Rattle.renewal.specs.declared.EntryAdd.{EntryAdd}
 use Rattle.renewal.specs.declared.EntryAdd.the-variants.{Added, Unadded}
-use Rattle.renewal.proofs.Passing.{own-part}
+use Rattle.packet.proofs.Window.{own-part}
 use Rattle.renewal_promises.specs.Slots.{Rows, FreeAt, HeldAt, First, Accepts}
 use Rattle.renewal_promises.specs.Adding.{addRefusals, addedTold, smallStore, OthersLive, Put, Comes, Adding}
 use Rattle.renewal_promises.specs.Calls.{Add}
