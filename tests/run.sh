@@ -45,7 +45,9 @@ bash tests/stack.sh target/staticlib/libch11.a
 
 echo "The samples, listed as samples/README.md says"
 while read -r sample last; do
-    says "$last" bash -c "./list 'samples/$sample.ch11' 2>/dev/null | tail -3"
+    # What is proved meanwhile is told on standard error.
+    quietly bash -c "./list 'samples/$sample.ch11' >target/listed"
+    says "$last" tail -3 target/listed
 done <<'END'
 flight packets=7 bytes=636 answer=0
 cut packets=6 bytes=504 answer=10
