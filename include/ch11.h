@@ -15,6 +15,11 @@
  * the window's start. Whoever has no use for it gives base 0 and has distances from the window's start. The base changes nothing else,
  * save that base plus window length must not pass 2^64 - 1 (refusal 1). (A message's start is counted from its packet's first byte.)
  *
+ * Reading ahead. A window may be filled further, or a recording of any size be read window by window, each begun at the place that the one
+ * before reached, with recording_reached as its base. Only refusals 2 and 10 and a window's exact end can change when more bytes come
+ * behind the window: 2 until 24 bytes are there, 10 until the packet's length of bytes is, 134,217,728 at most. Every other refusal stands,
+ * and no packet that was accepted is ever taken back. Read so, a recording gives the packets and the refusal of one reading of the whole.
+ *
  * Every result is written into a struct of 64-bit numbers, which needs no filling beforehand, save the builder's and the table. Each call
  * but ch11_renewal_next returns the refusal's number, 0 for none; the struct begins with the same number. On a refusal all other results
  * are 0, but for its two places, the room (of 16), the reason (of 15), the recording's three numbers and the builder's state; lists,

@@ -172,6 +172,16 @@ pub struct Recording {
     pub refusal: Option<Refusal>,
 }
 
+impl Recording {
+    /// Whether more bytes behind the window could change this answer: at its exact end, or where its
+    /// refusal [waits](Refusal::waits). A recording of any size is read by windows that each begin at the
+    /// place reached, with `recording_reached` as base, until one doesn't wait or nothing more comes: the
+    /// packets and the last refusal are those of one reading of the whole.
+    pub fn waits(&self) -> bool {
+        self.refusal.map_or(true, |refusal| refusal.waits())
+    }
+}
+
 /// Reads all packets of the window `buf[start..end]`, as [`packets`] does, and says how far it came.
 /// `base` is where the window starts in the recording.
 pub fn read_recording(buf: &[u8], start: usize, end: usize, base: u64) -> Recording {

@@ -188,6 +188,15 @@ impl fmt::Display for Refusal {
 
 impl Error for Refusal {}
 
+impl Refusal {
+    /// Whether more bytes behind the window could change a reader's answer: [`Number::Short`] waits for
+    /// 24 bytes, [`Number::Cut`] for the packet's length. Every other refusal stands, however far the
+    /// window is filled.
+    pub fn waits(&self) -> bool {
+        matches!(self.number, Number::Short | Number::Cut)
+    }
+}
+
 /// The refusal in a result of the library, if there is one.
 pub(crate) fn refused(refusal: raw::Refusal) -> Option<Refusal> {
     match refusal.number {

@@ -730,3 +730,32 @@ fn words_of_the_tables_refusals() {
         assert_eq!(refusal.to_string(), words);
     }
 }
+
+/// More bytes behind a window can change 2, 10 and the exact end, and nothing else.
+#[test]
+fn what_waits() {
+    let buf = recording();
+    for end in M_AT..=buf.len() {
+        let read = ch11::read_recording(&buf, M_AT, end, M_BASE);
+        let waits = match read.refusal.map(|refusal| refusal.number) {
+            None => [100, 180, 220, FILLED].contains(&end),
+            Some(Number::Short) => end - read.reached < 24,
+            Some(Number::Cut) => end - read.reached >= 24,
+            Some(number) => {
+                assert_eq!((end, number), (buf.len(), Number::DataSum));
+                false
+            }
+        };
+        assert_eq!(read.waits(), waits, "{end}");
+        let refused = ch11::read_packet(&buf, read.reached, end, read.recording_reached).err();
+        assert_eq!(
+            refused.map(|refusal| refusal.waits()),
+            Some(end < buf.len()),
+            "{end}"
+        );
+    }
+    for number in (1..=21).map(Number::from_value) {
+        let waits = matches!(number.value(), 2 | 10);
+        assert_eq!(refusal(number, 0, 0).waits(), waits, "{number}");
+    }
+}
