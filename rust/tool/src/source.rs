@@ -1,0 +1,123 @@
+//! Opens what a recording is read from: a file, or standard input.
+
+use crate::ahead::Sizes;
+use crate::failure::Failure;
+use crate::progress::Progress;
+use crate::windows::Windows;
+use std::fs::File;
+use std::io::{self, Seek, SeekFrom};
+use std::os::unix::io::AsFd;
+use std::path::Path;
+
+/// A source that was opened.
+pub struct Source {
+    file: File,
+    /// How many bytes a regular file has from where it stands; `None` for a pipe or a device.
+    size: Option<u64>,
+}
+
+impl Source {
+    /// Opens the file of this name; `-` is standard input, from where it stands.
+    pub fn open(path: &Path) -> Result<Source, Failure> {
+        if is_standard_input(path) {
+            Source::of_file(standard_input().map_err(Failure::Open)?)
+        } else {
+            Source::of_file(File::open(path).map_err(Failure::Open)?)
+        }
+    }
+
+    fn of_file(mut file: File) -> Result<Source, Failure> {
+        let about = file.metadata().map_err(Failure::Open)?;
+        if about.is_dir() {
+            return Err(Failure::Directory);
+        }
+        let size = if about.is_file() {
+            let at = file.stream_position().map_err(Failure::Open)?;
+            Some(about.len().saturating_sub(at))
+        } else {
+            None
+        };
+        Ok(Source { file, size })
+    }
+
+    /// How many bytes it has, where that is known.
+    pub fn size(&self) -> Option<u64> {
+        self.size
+    }
+
+    /// The windows over all of it.
+    pub fn windows(self, sizes: Sizes) -> Result<Windows, Failure> {
+        Windows::over(self.file, 0, self.size, sizes)
+    }
+
+    /// The windows from this place on: a regular file is sought, the bytes of another source are read and passed over.
+    pub fn windows_from(
+        mut self,
+        place: u64,
+        sizes: Sizes,
+        progress: &mut Progress,
+    ) -> Result<Windows, Failure> {
+        match self.size {
+            Some(end) if end < place => Err(Failure::NoPlace { place, end }),
+            Some(size) => {
+                self.seek_forward(place)
+                    .map_err(|error| Failure::Read { place, error })?;
+                Windows::over(self.file, place, Some(size - place), sizes)
+            }
+            None => {
+                let mut windows = self.windows(sizes)?;
+                pass_over(&mut windows, place, progress)?;
+                Ok(windows)
+            }
+        }
+    }
+
+    fn seek_forward(&mut self, bytes: u64) -> io::Result<()> {
+        let bytes = i64::try_from(bytes).map_err(|_| io::ErrorKind::InvalidInput)?;
+        self.file.seek(SeekFrom::Current(bytes)).map(|_| ())
+    }
+}
+
+/// The window then starts at this place of the recording.
+fn pass_over(windows: &mut Windows, place: u64, progress: &mut Progress) -> Result<(), Failure> {
+    loop {
+        let window = windows.window();
+        let ahead = place - window.base;
+        // No more than the window has: the windows see to that.
+        windows.pass(usize::try_from(ahead).unwrap_or(usize::MAX));
+        let end = windows.window().base;
+        progress.reached(end);
+        if end == place {
+            return Ok(());
+        }
+        if !windows.grow(1)? {
+            return Err(Failure::NoPlace { place, end });
+        }
+    }
+}
+
+/// Whether this name stands for standard input.
+pub fn is_standard_input(path: &Path) -> bool {
+    path.as_os_str() == "-"
+}
+
+/// Standard input as a file: nothing is buffered, and it can be sought where it is a regular file.
+fn standard_input() -> io::Result<File> {
+    Ok(File::from(io::stdin().as_fd().try_clone_to_owned()?))
+}
+
+/// The name to show for a source, on one line.
+pub fn shown_name(path: &Path) -> String {
+    if is_standard_input(path) {
+        return "standard input".to_owned();
+    }
+    let mut shown = String::new();
+    for letter in path.to_string_lossy().chars() {
+        if letter.is_control() {
+            shown.extend(letter.escape_default());
+        } else {
+            shown.push(letter);
+        }
+    }
+    shown
+}
