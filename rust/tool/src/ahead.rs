@@ -9,9 +9,6 @@ use std::thread;
 /// The longest packet of every type but 0x01, whose packets are up to 256 times as long.
 const LONGEST_COMMON: usize = 524_288;
 
-/// How many blocks there are at most: one that is looked at, one that is filled, two between.
-const MOST_BLOCKS: usize = 4;
-
 /// How many bytes are read at a time, and how many from the block before can be put ahead of them.
 #[derive(Clone, Copy, Debug)]
 pub struct Sizes {
@@ -21,6 +18,8 @@ pub struct Sizes {
     pub full: usize,
     /// Ahead of each block's fill: the rest of the block before, a packet that was cut.
     pub headroom: usize,
+    /// How many blocks there are at most: one that is looked at, one that is filled, and some between.
+    pub blocks: usize,
 }
 
 impl Sizes {
@@ -29,6 +28,7 @@ impl Sizes {
         first: 65_536,
         full: 1 << 20,
         headroom: LONGEST_COMMON,
+        blocks: 4,
     };
 
     /// Blocks of this many bytes, for tests.
@@ -37,6 +37,7 @@ impl Sizes {
             first: bytes,
             full: bytes,
             headroom: bytes.min(LONGEST_COMMON),
+            ..Sizes::FAST
         }
     }
 }
@@ -105,7 +106,12 @@ pub struct Ahead {
 impl Ahead {
     /// Starts to read the source, which begins at this place of the recording and, where that is known, has so many bytes.
     /// The thread is not waited for: it ends when a read ends and nobody takes its blocks any more.
-    pub fn start<R>(source: R, place: u64, size: Option<u64>, sizes: Sizes) -> Result<Ahead, Failure>
+    pub fn start<R>(
+        source: R,
+        place: u64,
+        size: Option<u64>,
+        sizes: Sizes,
+    ) -> Result<Ahead, Failure>
     where
         R: Read + Send + 'static,
     {
@@ -195,7 +201,7 @@ impl<R: Read> Reader<R> {
             self.sizes.full
         };
         let back = match self.emptied.try_recv() {
-            Err(TryRecvError::Empty) if self.made < MOST_BLOCKS => {
+            Err(TryRecvError::Empty) if self.made < self.sizes.blocks => {
                 self.made += 1;
                 return Block::new(self.sizes.headroom, room).map(Some);
             }

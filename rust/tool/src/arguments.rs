@@ -155,7 +155,11 @@ fn window() -> Arg {
 }
 
 /// An option whose value is a number, decimal or hex.
-fn number_of<T>(name: &'static str, value: &'static str, parse: fn(&str) -> Result<T, String>) -> Arg
+fn number_of<T>(
+    name: &'static str,
+    value: &'static str,
+    parse: fn(&str) -> Result<T, String>,
+) -> Arg
 where
     T: Clone + Send + Sync + 'static,
 {
@@ -199,7 +203,16 @@ mod tests {
         assert_eq!(number("0x50"), Ok(0x50));
         assert_eq!(number("0XfF"), Ok(255));
         assert_eq!(number("18446744073709551615"), Ok(u64::MAX));
-        for wrong in ["", "x", "-1", "0x", "0x+1", "18446744073709551616", "1.5", "50h"] {
+        for wrong in [
+            "",
+            "x",
+            "-1",
+            "0x",
+            "0x+1",
+            "18446744073709551616",
+            "1.5",
+            "50h",
+        ] {
             assert!(number(wrong).is_err(), "{wrong}");
         }
         assert_eq!((channel("65535"), kind("255")), (Ok(65_535), Ok(255)));

@@ -29,3 +29,28 @@ fn printed(byte: &u8) -> char {
         _ => '.',
     }
 }
+
+#[cfg(test)]
+mod tests {
+    use super::*;
+
+    fn dumped(bytes: &[u8]) -> String {
+        let mut out = Vec::new();
+        dump(&mut out, bytes).unwrap();
+        String::from_utf8(out).unwrap()
+    }
+
+    #[test]
+    fn lines_are_those_of_hexdump() {
+        assert_eq!(dumped(b""), "");
+        assert_eq!(
+            dumped(b"ABC\0 ~\x7f\xff"),
+            "00000000  41 42 43 00 20 7e 7f ff                           |ABC. ~..|\n"
+        );
+        assert_eq!(
+            dumped(b"0123456789abcdefX"),
+            "00000000  30 31 32 33 34 35 36 37  38 39 61 62 63 64 65 66  |0123456789abcdef|\n\
+             00000010  58                                                |X|\n"
+        );
+    }
+}

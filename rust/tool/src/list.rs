@@ -114,7 +114,11 @@ impl EndLines {
 
     fn write(&self, out: &mut impl Write) -> io::Result<()> {
         let EndLines { packets, bytes, .. } = self;
-        writeln!(out, "packets={packets}\nbytes={bytes}\nanswer={}", self.answer)
+        writeln!(
+            out,
+            "packets={packets}\nbytes={bytes}\nanswer={}",
+            self.answer
+        )
     }
 }
 

@@ -50,10 +50,7 @@ pub fn messages<W: Write>(windows: &mut Windows, out: &mut W) -> Result<Option<A
 }
 
 /// The messages of an accepted packet at a window's start. The library lists their places once; time and ID word stand ahead of each.
-pub fn messages_of<'a>(
-    window: Window<'a>,
-    packet: &Packet,
-) -> Result<Vec<Message<'a>>, Refusal> {
+pub fn messages_of<'a>(window: Window<'a>, packet: &Packet) -> Result<Vec<Message<'a>>, Refusal> {
     let Window {
         buf,
         start,

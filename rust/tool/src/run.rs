@@ -45,8 +45,12 @@ pub fn run(arguments: &Arguments) -> Status {
     let sizes = arguments.window.map_or(Sizes::FAST, Sizes::all_of);
     let done = match &arguments.task {
         Task::Check { files } => return check_all(files, sizes),
-        Task::List { file, shown } => list_file(file, shown, sizes).map_err(|failure| (file, failure)),
-        Task::Messages { file, at } => show_messages(file, *at, sizes).map_err(|failure| (file, failure)),
+        Task::List { file, shown } => {
+            list_file(file, shown, sizes).map_err(|failure| (file, failure))
+        }
+        Task::Messages { file, at } => {
+            show_messages(file, *at, sizes).map_err(|failure| (file, failure))
+        }
     };
     done.unwrap_or_else(|(file, failure)| tell(file, &failure))
 }
