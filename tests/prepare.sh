@@ -6,8 +6,11 @@ cd "$(dirname "$0")/../rust"
 source x86.sh
 x86_tools
 x86_counting_tools
+x86_crates
 x86_cargo test --release --quiet --no-run -p second
 x86_cargo build --release --quiet -p generate -p second
 # These run on the machine itself: one starts the listing program, the other reads what objdump prints.
 x86_host_cargo build --release --quiet -p listings -p stack
 x86_host_cargo test --release --quiet --no-run -p stack
+# What the command ch11 depends on; the command itself needs the library.
+(cd tool && x86_cargo build --release --quiet --locked -p clap -p console -p indicatif -p serde -p serde_json)

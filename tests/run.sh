@@ -1,5 +1,5 @@
 #!/usr/bin/env bash
-# The tests beside rt's: the C interface from C and from Rust, the stack, the samples, the comparison with the second program, and the
+# The tests beside rt's: the C interface from C and from Rust, the stack, the samples, the command ch11, the comparison with the second program, and the
 # benchmark's instructions.
 # Usage: bash tests/run.sh [CALLS]: compares at least so many calls (165,000). Installs what it needs (Debian packages), and proves and
 # builds the library and the listing program first.
@@ -53,6 +53,9 @@ flight packets=7 bytes=636 answer=0
 cut packets=6 bytes=504 answer=10
 altered packets=3 bytes=156 answer=13
 END
+
+echo "The command ch11: its tests, and its listings against the listing program's"
+bash tests/tool.sh
 
 cd rust
 echo "Rust: the second program's own tests, the wrapper's, and its examples"
