@@ -9,12 +9,15 @@ use std::thread;
 /// The longest packet of every type but 0x01, whose packets are up to 256 times as long.
 const LONGEST_COMMON: usize = 524_288;
 
+/// How many times as long as one that was filled the next block is.
+const GROWTH: usize = 8;
+
 /// How many bytes are read at a time, and how many from the block before can be put ahead of them.
 #[derive(Clone, Copy, Debug)]
 pub struct Sizes {
-    /// Of the first block: a short file needs no more.
+    /// In the first block: a short file needs no more. Blocks become longer while reads fill them,
     pub first: usize,
-    /// Of the others.
+    /// up to this.
     pub full: usize,
     /// Ahead of each block's fill: the rest of the block before, a packet that was cut.
     pub headroom: usize,
@@ -26,9 +29,9 @@ impl Sizes {
     /// The sizes that were measured to be fast; only packets of type 0x01 can be longer than the headroom.
     pub const FAST: Sizes = Sizes {
         first: 65_536,
-        full: 1 << 20,
+        full: 4 << 20,
         headroom: LONGEST_COMMON,
-        blocks: 4,
+        blocks: 3,
     };
 
     /// Blocks of this many bytes, for tests.
@@ -122,6 +125,7 @@ impl Ahead {
             sizes,
             place,
             end: size.map(|size| place.saturating_add(size)),
+            room: sizes.first,
             made: 0,
             emptied,
         };
@@ -172,7 +176,9 @@ struct Reader<R> {
     place: u64,
     /// Where the recording ends, as it was when it was opened.
     end: Option<u64>,
-    /// How many blocks were made.
+    /// How many bytes the next block is to hold.
+    room: usize,
+    /// How many blocks were made, but for those that took the place of a shorter one.
     made: usize,
     emptied: Receiver<Block>,
 }
@@ -195,22 +201,18 @@ impl<R: Read> Reader<R> {
 
     /// A block that was handed back; a new one while there are few. `None` where nobody is left to hand one back.
     fn empty_block(&mut self) -> Result<Option<Block>, Failure> {
-        let room = if self.made == 0 {
-            self.sizes.first
-        } else {
-            self.sizes.full
-        };
+        let (headroom, room) = (self.sizes.headroom, self.room);
         let back = match self.emptied.try_recv() {
             Err(TryRecvError::Empty) if self.made < self.sizes.blocks => {
                 self.made += 1;
-                return Block::new(self.sizes.headroom, room).map(Some);
+                return Block::new(headroom, room).map(Some);
             }
             Err(TryRecvError::Empty) => self.emptied.recv().ok(),
             Err(TryRecvError::Disconnected) => None,
             Ok(block) => Some(block),
         };
         match back {
-            Some(block) if block.room() < room => Block::new(self.sizes.headroom, room).map(Some),
+            Some(block) if block.room() < room => Block::new(headroom, room).map(Some),
             back => Ok(back),
         }
     }
@@ -223,6 +225,9 @@ impl<R: Read> Reader<R> {
                 Ok(filled) => {
                     block.filled = filled;
                     self.place += filled as u64;
+                    if filled == self.room {
+                        self.room = self.room.saturating_mul(GROWTH).min(self.sizes.full);
+                    }
                     return Report::Filled(block);
                 }
                 Err(error) if error.kind() == ErrorKind::Interrupted => {}
