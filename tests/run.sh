@@ -1,6 +1,6 @@
 #!/usr/bin/env bash
-# The tests beside rt's: the C interface from C and from Rust, the stack, the samples, the command ch11, the comparison with the second program, and the
-# benchmark's instructions.
+# The tests beside rt's: the C interface from C and from Rust, the stack, the samples, the command ch11, the comparison with the second
+# program, and the benchmark's instructions.
 # Usage: bash tests/run.sh [CALLS]: compares at least so many calls (165,000). Installs what it needs (Debian packages), and proves and
 # builds the library and the listing program first.
 set -euo pipefail

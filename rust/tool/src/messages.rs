@@ -25,16 +25,7 @@ pub struct Message<'a> {
 pub fn messages<W: Write>(windows: &mut Windows, out: &mut W) -> Result<Option<Answer>, Failure> {
     loop {
         let window = windows.window();
-        let Window {
-            buf,
-            start,
-            end,
-            base,
-        } = window;
-        match ch11::read_packet(buf, start, end, base).and_then(|packet| {
-            let found = messages_of(window, &packet)?;
-            Ok((packet, found))
-        }) {
+        match read(window) {
             Ok((packet, found)) => {
                 let shown = show(out, &packet, &found).and_then(|()| out.flush());
                 return shown.map(|()| None).map_err(Failure::Output);
@@ -47,6 +38,12 @@ pub fn messages<W: Write>(windows: &mut Windows, out: &mut W) -> Result<Option<A
             }
         }
     }
+}
+
+/// The packet at a window's start and its messages.
+fn read(window: Window<'_>) -> Result<(Packet, Vec<Message<'_>>), Refusal> {
+    let packet = ch11::read_packet(window.buf, window.start, window.end, window.base)?;
+    Ok((packet, messages_of(window, &packet)?))
 }
 
 /// The messages of an accepted packet at a window's start. The library lists their places once; time and ID word stand ahead of each.
