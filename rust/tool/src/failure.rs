@@ -39,7 +39,7 @@ impl fmt::Display for Failure {
             Failure::NoPlace { place, end } => {
                 write!(f, "has no byte {place}: it ends at {end}")
             }
-            Failure::Memory(bytes) => write!(f, "no memory for a packet of {bytes} bytes"),
+            Failure::Memory(bytes) => write!(f, "there is no memory for {bytes} bytes"),
             Failure::Thread(Some(error)) => {
                 write!(f, "no thread to read with: {}", system_words(error))
             }
