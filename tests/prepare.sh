@@ -13,4 +13,4 @@ x86_cargo build --release --quiet -p generate -p second
 x86_host_cargo build --release --quiet -p listings -p stack
 x86_host_cargo test --release --quiet --no-run -p stack
 # What the command ch11 depends on; the command itself needs the library.
-(cd tool && x86_cargo build --release --quiet --locked -p clap -p console -p indicatif -p serde -p serde_json)
+(cd tool && x86_cargo build --release --quiet -p clap -p console -p indicatif -p serde -p serde_json)

@@ -15,8 +15,8 @@ fail() {
     exit 1
 }
 
-in_tool x86_cargo build --release --quiet --locked --bins --examples
-in_tool x86_cargo test --release --quiet --locked --lib --tests >"$scratch/tests" 2>&1 || { cat "$scratch/tests" >&2; fail "cargo test"; }
+in_tool x86_cargo build --release --quiet --bins --examples
+in_tool x86_cargo test --release --quiet --lib --tests >"$scratch/tests" 2>&1 || { cat "$scratch/tests" >&2; fail "cargo test"; }
 ch11() { $x86_runner "$x86_built/ch11" "$@"; }
 
 # Runs ch11 and holds its status to the first argument; what it writes is in "$scratch/out" and "$scratch/err".

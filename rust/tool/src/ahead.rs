@@ -1,9 +1,12 @@
-//! Reads a source ahead on a thread of its own, into blocks that are handed back and filled again.
+//! Reads a source ahead on threads of their own, into blocks that are handed back and filled again.
 
 use crate::failure::Failure;
-use std::io::{ErrorKind, Read};
+use std::fs::File;
+use std::io::{self, ErrorKind, Read};
 use std::ops::Range;
+use std::os::unix::fs::FileExt;
 use std::sync::mpsc::{channel, Receiver, Sender, TryRecvError};
+use std::sync::Arc;
 use std::thread;
 
 /// The longest packet of every type but 0x01, whose packets are up to 256 times as long.
@@ -21,8 +24,10 @@ pub struct Sizes {
     pub full: usize,
     /// Ahead of each block's fill: the rest of the block before, a packet that was cut.
     pub headroom: usize,
-    /// How many blocks there are at most: one that is looked at, one that is filled, and some between.
+    /// How many blocks a lane has at most: one that is looked at, and others that are filled meanwhile.
     pub blocks: usize,
+    /// How many threads read a file at most, in lanes: each every so manyth block.
+    pub lanes: usize,
 }
 
 impl Sizes {
@@ -31,7 +36,8 @@ impl Sizes {
         first: 65_536,
         full: 4 << 20,
         headroom: LONGEST_COMMON,
-        blocks: 3,
+        blocks: 2,
+        lanes: 4,
     };
 
     /// Blocks of this many bytes, for tests.
@@ -43,18 +49,93 @@ impl Sizes {
             ..Sizes::FAST
         }
     }
+
+    /// How many lanes a file of so many bytes is read in: one where little is to be read, and no more than there are processors.
+    fn lanes_for(&self, size: u64) -> usize {
+        let most = thread::available_parallelism().map_or(1, |threads| threads.get());
+        if size > self.full as u64 {
+            self.lanes.min(most).max(1)
+        } else {
+            1
+        }
+    }
+
+    /// The room of the block behind a full one.
+    fn behind(&self, room: usize) -> usize {
+        room.saturating_mul(GROWTH).min(self.full)
+    }
+}
+
+/// Why a source gave no more.
+pub enum Stop {
+    End,
+    Error(io::Error),
+}
+
+/// What blocks are filled from.
+pub trait Source: Send + 'static {
+    /// Reads from this place of the recording on, and says how many bytes, and why no more come.
+    fn fill(&mut self, place: u64, room: &mut [u8]) -> (usize, Option<Stop>);
+}
+
+/// A source that can only be read on: its reads are taken as they come, and more may come behind each.
+struct Stream<R>(R);
+
+impl<R: Read + Send + 'static> Source for Stream<R> {
+    fn fill(&mut self, _place: u64, room: &mut [u8]) -> (usize, Option<Stop>) {
+        match retried(|| self.0.read(room)) {
+            Ok(0) => (0, Some(Stop::End)),
+            Ok(filled) => (filled, None),
+            Err(error) => (0, Some(Stop::Error(error))),
+        }
+    }
+}
+
+/// A file that is read by place, so that several threads can; the recording begins at `origin` of the file. The room is filled as far as
+/// the file goes.
+struct FileFrom {
+    file: Arc<File>,
+    origin: u64,
+}
+
+impl Source for FileFrom {
+    fn fill(&mut self, place: u64, room: &mut [u8]) -> (usize, Option<Stop>) {
+        let mut filled = 0;
+        while filled < room.len() {
+            let passed = place.saturating_add(filled as u64);
+            let at = self.origin.saturating_add(passed);
+            match retried(|| self.file.read_at(&mut room[filled..], at)) {
+                Ok(0) => return (filled, Some(Stop::End)),
+                Ok(more) => filled += more,
+                Err(error) => return (filled, Some(Stop::Error(error))),
+            }
+        }
+        (filled, None)
+    }
+}
+
+/// A read; one that a signal broke off is made again.
+fn retried(mut read: impl FnMut() -> io::Result<usize>) -> io::Result<usize> {
+    loop {
+        match read() {
+            Err(error) if error.kind() == ErrorKind::Interrupted => {}
+            done => return done,
+        }
+    }
 }
 
 /// Some bytes of a source, with headroom in front.
 #[derive(Debug)]
 pub struct Block {
+    /// The lane that it came from and goes back to.
+    lane: usize,
     bytes: Vec<u8>,
     headroom: usize,
     filled: usize,
 }
 
 impl Block {
-    fn new(headroom: usize, room: usize) -> Result<Block, Failure> {
+    fn new(lane: usize, headroom: usize, room: usize) -> Result<Block, Failure> {
         let mut bytes = Vec::new();
         let length = headroom.saturating_add(room);
         if bytes.try_reserve_exact(length).is_err() {
@@ -62,6 +143,7 @@ impl Block {
         }
         bytes.resize(length, 0);
         Ok(Block {
+            lane,
             bytes,
             headroom,
             filled: 0,
@@ -91,25 +173,32 @@ impl Block {
     }
 }
 
-/// What the thread tells.
+/// What a lane tells.
 enum Report {
     Filled(Block),
     End,
     Failed(Failure),
 }
 
-/// The side that takes the blocks.
-pub struct Ahead {
+/// The side of a lane that takes the blocks.
+struct Lane {
     reports: Receiver<Report>,
     empty: Sender<Block>,
+}
+
+/// The side that takes the blocks of all lanes, in their order.
+pub struct Ahead {
+    lanes: Vec<Lane>,
+    /// The lane that the next block comes from.
+    turn: usize,
     ended: bool,
     sizes: Sizes,
 }
 
 impl Ahead {
-    /// Starts to read the source, which begins at this place of the recording and, where that is known, has so many bytes.
-    /// The thread is not waited for: it ends when a read ends and nobody takes its blocks any more.
-    pub fn start<R>(
+    /// Starts to read a source, which begins at this place of the recording and, where that is known, has so many bytes.
+    /// No thread is waited for: one ends when a read ends and nobody takes its blocks any more.
+    pub fn stream<R>(
         source: R,
         place: u64,
         size: Option<u64>,
@@ -118,23 +207,58 @@ impl Ahead {
     where
         R: Read + Send + 'static,
     {
-        let (filled, reports) = channel();
-        let (empty, emptied) = channel();
-        let reader = Reader {
-            source,
-            sizes,
-            place,
-            end: size.map(|size| place.saturating_add(size)),
-            room: sizes.first,
-            made: 0,
-            emptied,
+        let end = size.map(|size| place.saturating_add(size));
+        Ahead::start(vec![Stream(source)], place, end, sizes)
+    }
+
+    /// Starts to read a file from this place of the recording on, which begins at `origin` of the file and ends, as it was opened, at `end`.
+    pub fn file(
+        file: File,
+        origin: u64,
+        place: u64,
+        end: u64,
+        sizes: Sizes,
+    ) -> Result<Ahead, Failure> {
+        let file = Arc::new(file);
+        let lane = |_| FileFrom {
+            file: Arc::clone(&file),
+            origin,
         };
-        thread::Builder::new()
-            .spawn(move || reader.read_all(&filled))
-            .map_err(|error| Failure::Thread(Some(error)))?;
+        let lanes = sizes.lanes_for(end.saturating_sub(place));
+        Ahead::start((0..lanes).map(lane).collect(), place, Some(end), sizes)
+    }
+
+    /// A lane for each of these, all of one source.
+    fn start<S: Source>(
+        sources: Vec<S>,
+        place: u64,
+        end: Option<u64>,
+        sizes: Sizes,
+    ) -> Result<Ahead, Failure> {
+        let (count, mut lanes) = (sources.len(), Vec::new());
+        for (lane, source) in sources.into_iter().enumerate() {
+            let (filled, reports) = channel();
+            let (empty, emptied) = channel();
+            let mut reader = Reader {
+                source,
+                lane,
+                lanes: count,
+                sizes,
+                place,
+                end,
+                room: sizes.first,
+                made: 0,
+                emptied,
+            };
+            reader.pass_over(lane);
+            thread::Builder::new()
+                .spawn(move || reader.read_all(&filled))
+                .map_err(|error| Failure::Thread(Some(error)))?;
+            lanes.push(Lane { reports, empty });
+        }
         Ok(Ahead {
-            reports,
-            empty,
+            lanes,
+            turn: 0,
             ended: false,
             sizes,
         })
@@ -145,8 +269,14 @@ impl Ahead {
         if self.ended {
             return Ok(None);
         }
-        match self.reports.recv() {
-            Ok(Report::Filled(block)) => Ok(Some(block)),
+        match self.lanes[self.turn].reports.recv() {
+            Ok(Report::Filled(block)) => {
+                // Behind a block that isn't full its lane has more to tell.
+                if block.filled == block.room() {
+                    self.turn = (self.turn + 1) % self.lanes.len();
+                }
+                Ok(Some(block))
+            }
             Ok(Report::End) => {
                 self.ended = true;
                 Ok(None)
@@ -159,7 +289,7 @@ impl Ahead {
     /// Hands a block back to be filled again.
     pub fn give_back(&self, block: Block) {
         // The thread may have ended: then nothing is to be filled.
-        let _ = self.empty.send(block);
+        let _ = self.lanes[block.lane].empty.send(block);
     }
 
     /// The sizes of the blocks.
@@ -168,9 +298,12 @@ impl Ahead {
     }
 }
 
-/// The side that fills the blocks, on its thread.
-struct Reader<R> {
-    source: R,
+/// The side of a lane that fills its blocks, on its thread.
+struct Reader<S> {
+    source: S,
+    lane: usize,
+    /// How many lanes there are.
+    lanes: usize,
     sizes: Sizes,
     /// The place in the recording that is read next.
     place: u64,
@@ -183,17 +316,29 @@ struct Reader<R> {
     emptied: Receiver<Block>,
 }
 
-impl<R: Read> Reader<R> {
+impl<S: Source> Reader<S> {
     /// Fills blocks up to the source's end, a failure, or until nobody takes them.
     fn read_all(mut self, reports: &Sender<Report>) {
         loop {
-            let report = match self.empty_block() {
-                Ok(Some(block)) => self.fill(block),
+            let mut block = match self.empty_block() {
+                Ok(Some(block)) => block,
                 Ok(None) => return,
-                Err(failure) => Report::Failed(failure),
+                Err(failure) => {
+                    let _ = reports.send(Report::Failed(failure));
+                    return;
+                }
             };
-            let last = !matches!(report, Report::Filled(_));
-            if reports.send(report).is_err() || last {
+            let (filled, stop) = self
+                .source
+                .fill(self.place, &mut block.bytes[block.headroom..]);
+            block.filled = filled;
+            self.passed(filled);
+            if filled > 0 && reports.send(Report::Filled(block)).is_err() {
+                return;
+            }
+            if let Some(stop) = stop {
+                // Where nobody takes it, nobody needs it.
+                let _ = reports.send(self.last_report(stop));
                 return;
             }
         }
@@ -201,51 +346,48 @@ impl<R: Read> Reader<R> {
 
     /// A block that was handed back; a new one while there are few. `None` where nobody is left to hand one back.
     fn empty_block(&mut self) -> Result<Option<Block>, Failure> {
-        let (headroom, room) = (self.sizes.headroom, self.room);
+        let new = |reader: &Reader<S>| Block::new(reader.lane, reader.sizes.headroom, reader.room);
         let back = match self.emptied.try_recv() {
             Err(TryRecvError::Empty) if self.made < self.sizes.blocks => {
                 self.made += 1;
-                return Block::new(headroom, room).map(Some);
+                return new(self).map(Some);
             }
             Err(TryRecvError::Empty) => self.emptied.recv().ok(),
             Err(TryRecvError::Disconnected) => None,
             Ok(block) => Some(block),
         };
         match back {
-            Some(block) if block.room() < room => Block::new(headroom, room).map(Some),
+            Some(block) if block.room() < self.room => new(self).map(Some),
             back => Ok(back),
         }
     }
 
-    /// Fills a block by one read; a read that a signal broke off is made again.
-    fn fill(&mut self, mut block: Block) -> Report {
-        let error = loop {
-            match self.source.read(&mut block.bytes[block.headroom..]) {
-                Ok(0) => return self.end(),
-                Ok(filled) => {
-                    block.filled = filled;
-                    self.place += filled as u64;
-                    if filled == self.room {
-                        self.room = self.room.saturating_mul(GROWTH).min(self.sizes.full);
-                    }
-                    return Report::Filled(block);
-                }
-                Err(error) if error.kind() == ErrorKind::Interrupted => {}
-                Err(error) => break error,
-            }
-        };
-        let place = self.place;
-        Report::Failed(Failure::Read { place, error })
+    /// So many bytes were read into a block. Behind a full one come those of the other lanes.
+    fn passed(&mut self, filled: usize) {
+        if filled == self.room {
+            self.pass_over(self.lanes);
+        } else {
+            self.place = self.place.saturating_add(filled as u64);
+        }
     }
 
-    /// The source gives no more: its end, or ahead of the end that it had when it was opened.
-    fn end(&self) -> Report {
-        match self.end {
-            Some(end) if self.place < end => Report::Failed(Failure::Shorter {
-                got: self.place,
-                size: end,
-            }),
-            _ => Report::End,
+    /// Passes over so many full blocks.
+    fn pass_over(&mut self, blocks: usize) {
+        for _ in 0..blocks {
+            self.place = self.place.saturating_add(self.room as u64);
+            self.room = self.sizes.behind(self.room);
+        }
+    }
+
+    /// The source gives no more: its end, ahead of the end that it had when it was opened, or an error.
+    fn last_report(&self, stop: Stop) -> Report {
+        let place = self.place;
+        match (stop, self.end) {
+            (Stop::Error(error), _) => Report::Failed(Failure::Read { place, error }),
+            (Stop::End, Some(size)) if place < size => {
+                Report::Failed(Failure::Shorter { got: place, size })
+            }
+            (Stop::End, _) => Report::End,
         }
     }
 }

@@ -5,15 +5,21 @@ use crate::failure::Failure;
 use crate::progress::Progress;
 use crate::windows::Windows;
 use std::fs::File;
-use std::io::{self, Seek, SeekFrom};
+use std::io::{self, Seek};
 use std::os::unix::io::AsFd;
 use std::path::Path;
 
 /// A source that was opened.
 pub struct Source {
     file: File,
-    /// How many bytes a regular file has from where it stands; `None` for a pipe or a device.
-    size: Option<u64>,
+    /// Of a regular file, where it stands and how many bytes it has from there; `None` for a pipe or a device.
+    part: Option<Part>,
+}
+
+#[derive(Clone, Copy)]
+struct Part {
+    origin: u64,
+    size: u64,
 }
 
 impl Source {
@@ -31,38 +37,40 @@ impl Source {
         if about.is_dir() {
             return Err(Failure::Directory);
         }
-        let size = if about.is_file() {
-            let at = file.stream_position().map_err(Failure::Open)?;
-            Some(about.len().saturating_sub(at))
+        let part = if about.is_file() {
+            let origin = file.stream_position().map_err(Failure::Open)?;
+            let size = about.len().saturating_sub(origin);
+            Some(Part { origin, size })
         } else {
             None
         };
-        Ok(Source { file, size })
+        Ok(Source { file, part })
     }
 
     /// How many bytes it has, where that is known.
     pub fn size(&self) -> Option<u64> {
-        self.size
+        self.part.map(|part| part.size)
     }
 
     /// The windows over all of it.
     pub fn windows(self, sizes: Sizes) -> Result<Windows, Failure> {
-        Windows::over(self.file, 0, self.size, sizes)
+        match self.part {
+            Some(Part { origin, size }) => Windows::over_file(self.file, origin, 0, size, sizes),
+            None => Windows::over(self.file, 0, None, sizes),
+        }
     }
 
-    /// The windows from this place on: a regular file is sought, the bytes of another source are read and passed over.
+    /// The windows from this place on: a regular file is read from there, the bytes of another source are read and passed over.
     pub fn windows_from(
-        mut self,
+        self,
         place: u64,
         sizes: Sizes,
         progress: &mut Progress,
     ) -> Result<Windows, Failure> {
-        match self.size {
-            Some(end) if end < place => Err(Failure::NoPlace { place, end }),
-            Some(size) => {
-                self.seek_forward(place)
-                    .map_err(|error| Failure::Read { place, error })?;
-                Windows::over(self.file, place, Some(size - place), sizes)
+        match self.part {
+            Some(Part { size, .. }) if size < place => Err(Failure::NoPlace { place, end: size }),
+            Some(Part { origin, size }) => {
+                Windows::over_file(self.file, origin, place, size, sizes)
             }
             None => {
                 let mut windows = self.windows(sizes)?;
@@ -70,11 +78,6 @@ impl Source {
                 Ok(windows)
             }
         }
-    }
-
-    fn seek_forward(&mut self, bytes: u64) -> io::Result<()> {
-        let bytes = i64::try_from(bytes).map_err(|_| io::ErrorKind::InvalidInput)?;
-        self.file.seek(SeekFrom::Current(bytes)).map(|_| ())
     }
 }
 

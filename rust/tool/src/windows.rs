@@ -2,6 +2,7 @@
 
 use crate::ahead::{Ahead, Block, Sizes};
 use crate::failure::Failure;
+use std::fs::File;
 use std::io::Read;
 
 /// A window as the library's readers take it: `buf[start..end]`, which starts at `base` of the recording.
@@ -44,14 +45,29 @@ impl Windows {
     where
         R: Read + Send + 'static,
     {
-        Ok(Windows {
-            ahead: Ahead::start(source, base, size, sizes)?,
+        Ahead::stream(source, base, size, sizes).map(|ahead| Windows::new(ahead, base))
+    }
+
+    /// The windows of a file from `base` of the recording on, which begins at `origin` of the file and ends, as it was opened, at `end`.
+    pub fn over_file(
+        file: File,
+        origin: u64,
+        base: u64,
+        end: u64,
+        sizes: Sizes,
+    ) -> Result<Windows, Failure> {
+        Ahead::file(file, origin, base, end, sizes).map(|ahead| Windows::new(ahead, base))
+    }
+
+    fn new(ahead: Ahead, base: u64) -> Windows {
+        Windows {
+            ahead,
             block: None,
             gathered: Vec::new(),
             start: 0,
             end: 0,
             base,
-        })
+        }
     }
 
     /// The window that is there now.

@@ -14,7 +14,10 @@ use generate::causes::{causes, with_faults};
 use generate::random::Random;
 use generate::recipe::{Recipe, CASE_L};
 use generate::recording::{many_messages, packet_of_length};
+use std::fs::{self, File};
 use std::io::{self, Cursor, Read};
+use std::sync::atomic::{AtomicUsize, Ordering};
+use std::{env, process};
 
 /// Window sizes around the lengths of headers and small packets.
 const ODD: [usize; 12] = [1, 2, 3, 23, 24, 25, 39, 40, 41, 997, 4_096, 65_537];
@@ -63,11 +66,31 @@ fn hold(recording: &[u8], found: &Checked, case: &str) {
     }
 }
 
+/// A file of 7 bytes and then these, without a name.
+fn file_of(recording: &[u8]) -> File {
+    static MADE: AtomicUsize = AtomicUsize::new(0);
+    let number = MADE.fetch_add(1, Ordering::Relaxed);
+    let name = env::temp_dir().join(format!("ch11-{}-{number}", process::id()));
+    fs::write(&name, [&[0xEE; 7], recording].concat()).unwrap();
+    let file = File::open(&name).unwrap();
+    fs::remove_file(&name).unwrap();
+    file
+}
+
+/// Checks a recording that stands in a file behind others' bytes, in lanes.
+fn checked_in_file(recording: &[u8], sizes: Sizes) -> Result<Checked, Failure> {
+    let (file, size) = (file_of(recording), recording.len() as u64);
+    let mut windows = Windows::over_file(file, 7, 0, size, sizes)?;
+    check(&mut windows, &mut Progress::none())
+}
+
 /// Checks and lists a recording with blocks of this size.
 fn try_both(recording: &[u8], sizes: Sizes, wanted: &str) {
     let case = format!("{} bytes, {sizes:?}", recording.len());
     let found = checked(Cursor::new(recording.to_vec()), sizes).unwrap();
     hold(recording, &found, &case);
+    let found = checked_in_file(recording, sizes).unwrap();
+    hold(recording, &found, &format!("{case}, file"));
     assert!(listed(recording, sizes) == wanted, "listing, {case}");
 }
 
@@ -266,4 +289,24 @@ fn messages_are_as_the_library_gives_each() {
         }
     }
     assert!(compared > 300, "{compared} were compared");
+}
+
+/// A file that has become shorter, and one that can't be read, in one lane and in several.
+#[test]
+fn files_that_fail() {
+    let recording = [CASE_L; 5].concat();
+    for bytes in [1, 3, 40, 67, 100, 199, 200, 201, 1_000] {
+        let sizes = Sizes::all_of(bytes);
+        let mut windows = Windows::over_file(file_of(&recording), 7, 0, 260, sizes).unwrap();
+        match check(&mut windows, &mut Progress::none()) {
+            Err(Failure::Shorter { got, size }) => assert_eq!((got, size), (200, 260), "{bytes}"),
+            other => panic!("{other:?}, {bytes}"),
+        }
+        let folder = File::open(env::temp_dir()).unwrap();
+        let mut windows = Windows::over_file(folder, 0, 0, 260, sizes).unwrap();
+        match check(&mut windows, &mut Progress::none()) {
+            Err(Failure::Read { place, .. }) => assert_eq!(place, 0, "{bytes}"),
+            other => panic!("{other:?}, {bytes}"),
+        }
+    }
 }
