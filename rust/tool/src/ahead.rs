@@ -12,6 +12,9 @@ use std::thread;
 /// The longest packet of every type but 0x01, whose packets are up to 256 times as long.
 const LONGEST_COMMON: usize = 524_288;
 
+/// The most lanes; more would only take memory.
+const MOST_LANES: usize = 4;
+
 /// How many times as long as one that was filled the next block is.
 const GROWTH: usize = 8;
 
@@ -26,7 +29,7 @@ pub struct Sizes {
     pub headroom: usize,
     /// How many blocks a lane has at most: one that is looked at, and others that are filled meanwhile.
     pub blocks: usize,
-    /// How many threads read a file at most, in lanes: each every so manyth block.
+    /// How many threads read a file that is longer than a block, in lanes: each every so manyth block.
     pub lanes: usize,
 }
 
@@ -36,9 +39,18 @@ impl Sizes {
         first: 65_536,
         full: 4 << 20,
         headroom: LONGEST_COMMON,
-        blocks: 2,
-        lanes: 4,
+        blocks: 3,
+        lanes: 1,
     };
+
+    /// The same, with as many lanes as this machine has processors beside the one that looks at the blocks.
+    pub fn for_machine() -> Sizes {
+        let threads = thread::available_parallelism().map_or(1, |threads| threads.get());
+        Sizes {
+            lanes: threads.saturating_sub(1).clamp(1, MOST_LANES),
+            ..Sizes::FAST
+        }
+    }
 
     /// Blocks of this many bytes, for tests.
     pub fn all_of(bytes: usize) -> Sizes {
@@ -46,15 +58,15 @@ impl Sizes {
             first: bytes,
             full: bytes,
             headroom: bytes.min(LONGEST_COMMON),
+            lanes: 3,
             ..Sizes::FAST
         }
     }
 
-    /// How many lanes a file of so many bytes is read in: one where little is to be read, and no more than there are processors.
+    /// How many lanes a file of so many bytes is read in: one where little is to be read.
     fn lanes_for(&self, size: u64) -> usize {
-        let most = thread::available_parallelism().map_or(1, |threads| threads.get());
         if size > self.full as u64 {
-            self.lanes.min(most).max(1)
+            self.lanes.max(1)
         } else {
             1
         }

@@ -42,7 +42,9 @@ impl Status {
 
 /// Does what the arguments say.
 pub fn run(arguments: &Arguments) -> Status {
-    let sizes = arguments.window.map_or(Sizes::FAST, Sizes::all_of);
+    let sizes = arguments
+        .window
+        .map_or_else(Sizes::for_machine, Sizes::all_of);
     let done = match &arguments.task {
         Task::Check { files } => return check_all(files, sizes),
         Task::List { file, shown } => {
