@@ -18,10 +18,11 @@ x86_counting_tools() {
     command -v qemu-x86_64 >/dev/null || missing+=(qemu-user)
     [ ${#missing[@]} -eq 0 ] || { apt-get update -qq && x86_install "${missing[@]}"; }
 }
+
 # The crates that rust/tool depends on: sources under /usr/share/cargo/registry, the same on every machine.
 x86_crates() {
-    local packages=(librust-clap-dev librust-indicatif-dev librust-serde-json-dev) there
-    there=$(dpkg-query -W -f '${db:Status-Status}\n' "${packages[@]}" 2>/dev/null | grep -c '^installed$' || true)
+    local packages=(librust-clap-dev librust-console-dev librust-indicatif-dev librust-serde-derive-dev librust-serde-json-dev) there
+    there=$(dpkg-query -W -f '${db:Status-Status} ${Package}\n' "${packages[@]}" 2>/dev/null | grep '^installed ' | sort -u | wc -l || true)
     [ "$there" -eq ${#packages[@]} ] || { apt-get update -qq && x86_install "${packages[@]}"; }
 }
 x86_debian_cargo() { RUSTC=/usr/bin/rustc RUSTDOC=/usr/bin/rustdoc /usr/bin/cargo "$@"; }

@@ -27,9 +27,13 @@ status() {
     [ "$got" -eq "$wanted" ] || { cat "$scratch/err" >&2; fail "status $got, not $wanted: ch11 $*"; }
 }
 
-# The listing program itself, on the samples whole and at odd windows.
-for sample in flight:0 cut:1 altered:1; do
-    file=samples/${sample%:*}.ch11
+# The listing program itself, on the samples and on made recordings, whole and at odd windows.
+for kind in uart mixed; do
+    $x86_runner "$x86_built/examples/make" $kind 1 >"$scratch/made"
+    head -c 60000 "$scratch/made" >"$scratch/$kind"
+done
+for sample in samples/flight.ch11:0 samples/cut.ch11:1 samples/altered.ch11:1 "$scratch/uart:0" "$scratch/mixed:1"; do
+    file=${sample%:*}
     $x86_runner target/bin/listing <"$file" >"$scratch/listing"
     for window in '' 1 3 24 41 100 997; do
         status "${sample#*:}" list ${window:+--window "$window"} "$file"

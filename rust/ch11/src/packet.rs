@@ -175,8 +175,9 @@ pub struct Recording {
 impl Recording {
     /// Whether more bytes behind the window could change this answer: at its exact end, or where its
     /// refusal [waits](Refusal::waits). A recording of any size is read by windows that each begin at the
-    /// place reached, with `recording_reached` as base, until one doesn't wait or nothing more comes: the
-    /// packets and the last refusal are those of one reading of the whole.
+    /// place reached, with `recording_reached` as base, and are longer where the one before accepted
+    /// nothing, until one doesn't wait or nothing more comes: the packets and the last refusal are those
+    /// of one reading of the whole.
     pub fn waits(&self) -> bool {
         self.refusal.map_or(true, |refusal| refusal.waits())
     }

@@ -79,26 +79,26 @@ impl Sizes {
 }
 
 /// Why a source gave no more.
-pub enum Stop {
+enum Over {
     End,
     Error(io::Error),
 }
 
 /// What blocks are filled from.
-pub trait Source: Send + 'static {
+trait Fill: Send + 'static {
     /// Reads from this place of the recording on, and says how many bytes, and why no more come.
-    fn fill(&mut self, place: u64, room: &mut [u8]) -> (usize, Option<Stop>);
+    fn fill(&mut self, place: u64, room: &mut [u8]) -> (usize, Option<Over>);
 }
 
 /// A source that can only be read on: its reads are taken as they come, and more may come behind each.
 struct Stream<R>(R);
 
-impl<R: Read + Send + 'static> Source for Stream<R> {
-    fn fill(&mut self, _place: u64, room: &mut [u8]) -> (usize, Option<Stop>) {
+impl<R: Read + Send + 'static> Fill for Stream<R> {
+    fn fill(&mut self, _place: u64, room: &mut [u8]) -> (usize, Option<Over>) {
         match retried(|| self.0.read(room)) {
-            Ok(0) => (0, Some(Stop::End)),
+            Ok(0) => (0, Some(Over::End)),
             Ok(filled) => (filled, None),
-            Err(error) => (0, Some(Stop::Error(error))),
+            Err(error) => (0, Some(Over::Error(error))),
         }
     }
 }
@@ -110,16 +110,16 @@ struct FileFrom {
     origin: u64,
 }
 
-impl Source for FileFrom {
-    fn fill(&mut self, place: u64, room: &mut [u8]) -> (usize, Option<Stop>) {
+impl Fill for FileFrom {
+    fn fill(&mut self, place: u64, room: &mut [u8]) -> (usize, Option<Over>) {
         let mut filled = 0;
         while filled < room.len() {
             let passed = place.saturating_add(filled as u64);
             let at = self.origin.saturating_add(passed);
             match retried(|| self.file.read_at(&mut room[filled..], at)) {
-                Ok(0) => return (filled, Some(Stop::End)),
+                Ok(0) => return (filled, Some(Over::End)),
                 Ok(more) => filled += more,
-                Err(error) => return (filled, Some(Stop::Error(error))),
+                Err(error) => return (filled, Some(Over::Error(error))),
             }
         }
         (filled, None)
@@ -208,19 +208,13 @@ pub struct Ahead {
 }
 
 impl Ahead {
-    /// Starts to read a source, which begins at this place of the recording and, where that is known, has so many bytes.
+    /// Starts to read a source, which begins at this place of the recording.
     /// No thread is waited for: one ends when a read ends and nobody takes its blocks any more.
-    pub fn stream<R>(
-        source: R,
-        place: u64,
-        size: Option<u64>,
-        sizes: Sizes,
-    ) -> Result<Ahead, Failure>
+    pub fn stream<R>(source: R, place: u64, sizes: Sizes) -> Result<Ahead, Failure>
     where
         R: Read + Send + 'static,
     {
-        let end = size.map(|size| place.saturating_add(size));
-        Ahead::start(vec![Stream(source)], place, end, sizes)
+        Ahead::start(vec![Stream(source)], place, None, sizes)
     }
 
     /// Starts to read a file from this place of the recording on, which begins at `origin` of the file and ends, as it was opened, at `end`.
@@ -241,7 +235,7 @@ impl Ahead {
     }
 
     /// A lane for each of these, all of one source.
-    fn start<S: Source>(
+    fn start<S: Fill>(
         sources: Vec<S>,
         place: u64,
         end: Option<u64>,
@@ -328,7 +322,7 @@ struct Reader<S> {
     emptied: Receiver<Block>,
 }
 
-impl<S: Source> Reader<S> {
+impl<S: Fill> Reader<S> {
     /// Fills blocks up to the source's end, a failure, or until nobody takes them.
     fn read_all(mut self, reports: &Sender<Report>) {
         loop {
@@ -340,7 +334,7 @@ impl<S: Source> Reader<S> {
                     return;
                 }
             };
-            let (filled, stop) = self
+            let (filled, over) = self
                 .source
                 .fill(self.place, &mut block.bytes[block.headroom..]);
             block.filled = filled;
@@ -348,9 +342,9 @@ impl<S: Source> Reader<S> {
             if filled > 0 && reports.send(Report::Filled(block)).is_err() {
                 return;
             }
-            if let Some(stop) = stop {
+            if let Some(over) = over {
                 // Where nobody takes it, nobody needs it.
-                let _ = reports.send(self.last_report(stop));
+                let _ = reports.send(self.last_report(over));
                 return;
             }
         }
@@ -392,14 +386,14 @@ impl<S: Source> Reader<S> {
     }
 
     /// The source gives no more: its end, ahead of the end that it had when it was opened, or an error.
-    fn last_report(&self, stop: Stop) -> Report {
+    fn last_report(&self, over: Over) -> Report {
         let place = self.place;
-        match (stop, self.end) {
-            (Stop::Error(error), _) => Report::Failed(Failure::Read { place, error }),
-            (Stop::End, Some(size)) if place < size => {
+        match (over, self.end) {
+            (Over::Error(error), _) => Report::Failed(Failure::Read { place, error }),
+            (Over::End, Some(size)) if place < size => {
                 Report::Failed(Failure::Shorter { got: place, size })
             }
-            (Stop::End, _) => Report::End,
+            (Over::End, _) => Report::End,
         }
     }
 }

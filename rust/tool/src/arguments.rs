@@ -193,11 +193,6 @@ mod tests {
     use super::*;
 
     #[test]
-    fn command_is_well_formed() {
-        command().debug_assert();
-    }
-
-    #[test]
     fn numbers_are_decimal_or_hex() {
         assert_eq!(number("80"), Ok(80));
         assert_eq!(number("0x50"), Ok(0x50));

@@ -158,23 +158,27 @@ impl<W: Write> Lister<'_, W> {
             return Ok(());
         }
         let lines = PacketLines::new(number, packet, message_count(window, packet));
+        self.put(&lines, PacketLines::write)
+    }
+
+    /// Writes these lines, or their JSON object.
+    fn put<L: Serialize>(
+        &mut self,
+        lines: &L,
+        write: impl Fn(&L, &mut W) -> io::Result<()>,
+    ) -> Result<(), Failure> {
         let written = if self.shown.json {
-            write_json(self.out, &lines)
+            write_json(self.out, lines)
         } else {
-            lines.write(self.out)
+            write(lines, self.out)
         };
         written.map_err(Failure::Output)
     }
 
     fn end(&mut self, answer: &Answer) -> Result<(), Failure> {
         let lines = EndLines::new(self.packets, answer);
-        let written = if self.shown.json {
-            write_json(self.out, &lines)
-        } else {
-            lines.write(self.out)
-        };
-        let written = written.and_then(|()| self.out.flush());
-        written.map_err(Failure::Output)
+        self.put(&lines, EndLines::write)?;
+        self.out.flush().map_err(Failure::Output)
     }
 }
 

@@ -6,6 +6,6 @@ use ch11_tool::{arguments, run};
 use std::process::ExitCode;
 
 fn main() -> ExitCode {
-    // The thread that reads ahead may be in a read that takes long: the program ends without it.
+    // A thread that reads ahead may be in a read that takes long: the program ends without it.
     ExitCode::from(run::run(&arguments::parse()).code())
 }

@@ -35,11 +35,11 @@ pub struct Answer {
 impl Answer {
     /// The answer at the start of a window: the refusal of the packet there, or the window's exact end.
     pub fn at(window: Window<'_>, refusal: Option<Refusal>) -> Answer {
-        let needed = match refusal.map(|refusal| refusal.number) {
+        let needed = match refusal {
             None => Some(1),
-            Some(Number::Short) => Some(HEADER),
-            Some(Number::Cut) => Some(packet_length(window.bytes())),
-            Some(_) => None,
+            Some(refusal) if !refusal.waits() => None,
+            Some(refusal) if refusal.number == Number::Short => Some(HEADER),
+            Some(_) => Some(packet_length(window.bytes())),
         };
         Answer {
             bytes: window.base,

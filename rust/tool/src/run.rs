@@ -9,7 +9,9 @@ use crate::messages::messages;
 use crate::progress::Progress;
 use crate::source::{shown_name, Source};
 use crate::words::Verdict;
+use std::fs::File;
 use std::io::{self, BufWriter, Write};
+use std::os::unix::io::AsFd;
 use std::path::{Path, PathBuf};
 
 /// How many bytes of lines are written at a time.
@@ -68,8 +70,14 @@ fn tell(file: &Path, failure: &Failure) -> Status {
     Status::Failed
 }
 
-fn output() -> BufWriter<io::StdoutLock<'static>> {
-    BufWriter::with_capacity(LINES, io::stdout().lock())
+/// Standard output as a file, so that every error of a write is told; `io::stdout` keeps some to itself.
+fn standard_output() -> Result<File, Failure> {
+    let output = io::stdout().as_fd().try_clone_to_owned();
+    output.map(File::from).map_err(Failure::Output)
+}
+
+fn output() -> Result<BufWriter<File>, Failure> {
+    Ok(BufWriter::with_capacity(LINES, standard_output()?))
 }
 
 /// A line for each file; the others are still checked where one can't be read.
@@ -77,7 +85,9 @@ fn check_all(files: &[PathBuf], sizes: Sizes) -> Status {
     let mut status = Status::Whole;
     for file in files {
         let checked = check_file(file, sizes).and_then(|checked| {
-            writeln!(io::stdout(), "{}: {checked}", shown_name(file)).map_err(Failure::Output)?;
+            let line = format!("{}: {checked}\n", shown_name(file));
+            let written = standard_output()?.write_all(line.as_bytes());
+            written.map_err(Failure::Output)?;
             Ok(Status::of(checked.answer.refusal.is_some()))
         });
         match checked {
@@ -104,7 +114,7 @@ fn list_file(file: &Path, shown: &Shown, sizes: Sizes) -> Result<Status, Failure
     // On a terminal the lines show how far it has come.
     let mut progress = Progress::new(source.size(), !console::user_attended());
     let mut windows = source.windows(sizes)?;
-    let answer = list(&mut windows, &mut progress, shown, &mut output())?;
+    let answer = list(&mut windows, &mut progress, shown, &mut output()?)?;
     Ok(Status::of(answer.refusal.is_some()))
 }
 
@@ -113,7 +123,7 @@ fn show_messages(file: &Path, place: u64, sizes: Sizes) -> Result<Status, Failur
     let mut progress = Progress::new(source.size(), true);
     let mut windows = source.windows_from(place, sizes, &mut progress)?;
     drop(progress);
-    let mut out = output();
+    let mut out = output()?;
     let refused = messages(&mut windows, &mut out)?;
     if let Some(answer) = &refused {
         let written = writeln!(out, "{}", Verdict(answer)).and_then(|()| out.flush());

@@ -56,7 +56,7 @@ impl Source {
     pub fn windows(self, sizes: Sizes) -> Result<Windows, Failure> {
         match self.part {
             Some(Part { origin, size }) => Windows::over_file(self.file, origin, 0, size, sizes),
-            None => Windows::over(self.file, 0, None, sizes),
+            None => Windows::over(self.file, 0, sizes),
         }
     }
 

@@ -35,17 +35,12 @@ pub struct Windows {
 }
 
 impl Windows {
-    /// The windows of a source that begins at `base` of the recording and, where that is known, has `size` bytes. The first is empty.
-    pub fn over<R>(
-        source: R,
-        base: u64,
-        size: Option<u64>,
-        sizes: Sizes,
-    ) -> Result<Windows, Failure>
+    /// The windows of a source that begins at `base` of the recording. The first is empty.
+    pub fn over<R>(source: R, base: u64, sizes: Sizes) -> Result<Windows, Failure>
     where
         R: Read + Send + 'static,
     {
-        Ahead::stream(source, base, size, sizes).map(|ahead| Windows::new(ahead, base))
+        Ahead::stream(source, base, sizes).map(|ahead| Windows::new(ahead, base))
     }
 
     /// The windows of a file from `base` of the recording on, which begins at `origin` of the file and ends, as it was opened, at `end`.

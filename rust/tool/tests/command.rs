@@ -7,7 +7,7 @@ use std::env;
 use std::fs::{self, File};
 use std::io::{Read, Write};
 use std::path::{Path, PathBuf};
-use std::process::{Child, Command, Stdio};
+use std::process::{Child, Command, Output, Stdio};
 use std::thread;
 
 /// The program, under the emulator where cargo runs tests under one.
@@ -34,13 +34,16 @@ struct Ran {
     status: Option<i32>,
 }
 
-fn finished(command: &mut Command) -> Ran {
-    let output = command.output().unwrap();
+fn ran(output: Output) -> Ran {
     Ran {
         out: String::from_utf8(output.stdout).unwrap(),
         err: String::from_utf8(output.stderr).unwrap(),
         status: output.status.code(),
     }
+}
+
+fn finished(command: &mut Command) -> Ran {
+    ran(command.output().unwrap())
 }
 
 fn run(arguments: &[&str]) -> Ran {
@@ -66,11 +69,7 @@ fn fed(arguments: &[&str], input: &[u8]) -> Ran {
     let feeder = thread::spawn(move || drop(stdin.write_all(&input)));
     let output = child.wait_with_output().unwrap();
     feeder.join().unwrap();
-    Ran {
-        out: String::from_utf8(output.stdout).unwrap(),
-        err: String::from_utf8(output.stderr).unwrap(),
-        status: output.status.code(),
-    }
+    ran(output)
 }
 
 fn sample(name: &str) -> String {
@@ -299,6 +298,12 @@ fn messages_are_shown_with_times_and_bytes() {
         "packet at 504: channel 20, type 0x09 is not opened: no messages\n"
     );
     assert_eq!(shown("504").status, Some(0));
+}
+
+#[test]
+fn messages_that_are_not_there() {
+    let flight = sample("flight");
+    let shown = |at: &str| run(&["messages", &flight, "--at", at]);
     let refused = |at: &str, words: &str| {
         let ran = shown(at);
         assert_eq!(
@@ -331,11 +336,11 @@ fn messages_are_shown_with_times_and_bytes() {
 fn a_closed_output_is_told() {
     let recording = fs::read(sample("flight")).unwrap().repeat(3_000);
     let file = written(&folder("closed"), "long", &recording);
-    for arguments in [
-        &["list", &file][..],
-        &["list", "--json", &file],
-        &["check", &file, &file],
-    ] {
+    // More lines than a pipe holds, so that the program can't end before the pipe is closed.
+    let flight = sample("flight");
+    let mut many = vec!["check"];
+    many.resize(2_001, &flight);
+    for arguments in [&["list", &file][..], &["list", "--json", &file], &many] {
         let mut child = started(arguments);
         drop(child.stdout.take());
         let ran = child.wait_with_output().unwrap();

@@ -25,7 +25,7 @@ const ODD: [usize; 12] = [1, 2, 3, 23, 24, 25, 39, 40, 41, 997, 4_096, 65_537];
 /// Windows of this size over a recording in memory.
 fn windows(recording: &[u8], sizes: Sizes) -> Windows {
     let source = Cursor::new(recording.to_vec());
-    Windows::over(source, 0, Some(recording.len() as u64), sizes).unwrap()
+    Windows::over(source, 0, sizes).unwrap()
 }
 
 fn listed(recording: &[u8], sizes: Sizes) -> String {
@@ -42,7 +42,7 @@ fn listed(recording: &[u8], sizes: Sizes) -> String {
 }
 
 fn checked(source: impl Read + Send + 'static, sizes: Sizes) -> Result<Checked, Failure> {
-    let mut windows = Windows::over(source, 0, None, sizes)?;
+    let mut windows = Windows::over(source, 0, sizes)?;
     check(&mut windows, &mut Progress::none())
 }
 
@@ -84,6 +84,17 @@ fn checked_in_file(recording: &[u8], sizes: Sizes) -> Result<Checked, Failure> {
     check(&mut windows, &mut Progress::none())
 }
 
+/// Blocks that grow from 30 bytes to 2,000, in so many lanes.
+fn growing(lanes: usize) -> Sizes {
+    Sizes {
+        first: 30,
+        full: 2_000,
+        headroom: 600,
+        blocks: 2,
+        lanes,
+    }
+}
+
 /// Checks and lists a recording with blocks of this size.
 fn try_both(recording: &[u8], sizes: Sizes, wanted: &str) {
     let case = format!("{} bytes, {sizes:?}", recording.len());
@@ -107,6 +118,9 @@ fn listings_are_the_second_programs_at_odd_windows() {
             }
         }
         try_both(&recording, Sizes::FAST, &wanted);
+        for lanes in 1..=4 {
+            try_both(&recording, growing(lanes), &wanted);
+        }
     }
     assert!(compared > 400, "{compared} were compared");
 }
@@ -247,21 +261,6 @@ fn a_read_that_fails_is_told_with_its_place() {
 }
 
 #[test]
-fn a_file_that_became_shorter_is_told() {
-    let recording = CASE_L.repeat(3);
-    for end in [0, 1, 39, 40, 80, 119] {
-        for sizes in [Sizes::FAST, Sizes::all_of(1), Sizes::all_of(40)] {
-            let source = Cursor::new(recording[..end].to_vec());
-            let mut windows = Windows::over(source, 0, Some(120), sizes).unwrap();
-            match check(&mut windows, &mut Progress::none()) {
-                Err(Failure::Shorter { got, size }) => assert_eq!((got, size), (end as u64, 120)),
-                other => panic!("{other:?}"),
-            }
-        }
-    }
-}
-
-#[test]
 fn messages_are_as_the_library_gives_each() {
     let mut random = Random::new(9);
     let mut compared = 0;
@@ -291,9 +290,9 @@ fn messages_are_as_the_library_gives_each() {
     assert!(compared > 300, "{compared} were compared");
 }
 
-/// A file that has become shorter, and one that can't be read, in one lane and in several.
+/// A file that has become shorter, one that is read from a place on, and one that can't be read, in one lane and in several.
 #[test]
-fn files_that_fail() {
+fn files_in_lanes() {
     let recording = [CASE_L; 5].concat();
     for bytes in [1, 3, 40, 67, 100, 199, 200, 201, 1_000] {
         let sizes = Sizes::all_of(bytes);
@@ -302,6 +301,10 @@ fn files_that_fail() {
             Err(Failure::Shorter { got, size }) => assert_eq!((got, size), (200, 260), "{bytes}"),
             other => panic!("{other:?}, {bytes}"),
         }
+        // From the third packet on.
+        let mut windows = Windows::over_file(file_of(&recording), 7, 80, 200, sizes).unwrap();
+        let found = check(&mut windows, &mut Progress::none()).unwrap();
+        assert_eq!((found.packets, found.answer.bytes), (3, 200), "{bytes}");
         let folder = File::open(env::temp_dir()).unwrap();
         let mut windows = Windows::over_file(folder, 0, 0, 260, sizes).unwrap();
         match check(&mut windows, &mut Progress::none()) {
