@@ -25,7 +25,7 @@ use Rattle.packet.proofs.Passes.{Inside, inside-made, inside-on, window-ends, p
 use Rattle.packet.proofs.Window.{own-part}
 use Rattle.packet.proofs.Own.{accepted-at, accepted-fits}
 use Rattle.packet.proofs.Longer.{answer-longer, from-to, pass-elsewhere}
-use Rattle.recording.specs.Reading.{Reading, stopped, ahead, reading, readRecording}
+use Rattle.recording.specs.Reading.{Reading, ahead, reading, readRecording}
 use Rattle.recording.specs.declared.Recording.{Recording}
 use Rattle.recording.proofs.Readings.{from, joined, from-end, from-on, from-stops, reading-inside}
 use Rattle.promises.specs.Handed.{lengthOf, Within, HandsOut}
