@@ -8,6 +8,7 @@ pub mod arguments;
 pub mod check;
 pub mod dump;
 pub mod failure;
+mod fill;
 pub mod list;
 pub mod messages;
 pub mod progress;
