@@ -8,7 +8,7 @@ use native.Mathlib.Omega.{arith}
 use native.Mathlib.Nat.{zero-add, add-zero}
 use lib.ListN.{length}
 use lib.Dec.{ltb, leb, eqb}
-use borrow.Author.Tests.{leb-true, leb-false, ltb-true, ltb-false, eqb-true, eqb-false, not-true, not_false}
+use borrow.Author.Tests.{leb-true, leb-false, ltb-true, ltb-false, eqb-true, eqb-false, not-true, not-false}
 use Rattle.units.specs.Units.{part, zeros}
 use Rattle.units.specs.Choice.{pick}
 use Rattle.terms.specs.Times.{time_ok}
@@ -71,8 +71,8 @@ broken_for sh bs at Q each =
     (λ t₁. by_test Q (ltb (length bs) (block_end m)) at 2 _ (λ t. each.short (ltb-false (length bs) head-end t₁) (ltb-true (length bs) (block_end m) t))
     (λ t₂. let whole = ltb-false (length bs) (block_end m) t₂ in
     by_test Q (not in_form) at 3 _ (λ t. each.time whole (not-true in_form t))
-    (λ t₃. by_test Q (eqb m.length 0) at 4 _ (λ t. each.empty whole (not_false in_form t₃) (eqb-true m.length 0 t))
-    (λ t₄. by_test Q (not padded) at 5 _ (λ t. each.pad whole (not_false in_form t₃) (eqb-false m.length 0 t₄) (not-true padded t))
+    (λ t₃. by_test Q (eqb m.length 0) at 4 _ (λ t. each.empty whole (not-false in_form t₃) (eqb-true m.length 0 t))
+    (λ t₄. by_test Q (not padded) at 5 _ (λ t. each.pad whole (not-false in_form t₃) (eqb-false m.length 0 t₄) (not-true padded t))
     (λ t₅ r e. let z : ◌≡◌ {A = ℕ} 0 1 = cc in absurd (omega arith)))))))
 
 pub broken_at : (sh : Shape) (bs : List ℕ) (at : ℕ) (r : Refusal) → block_at sh bs at ≡ Broken r → FaultAt at r

@@ -7,7 +7,7 @@ use Prim.Native.Nat.{ℕ, zero, suc, ◌/◌, ◌%◌, ◌^◌, ◌≤◌, ◌<�
 use native.Mathlib.Omega.{arith}
 use lib.ListN.{length}
 use lib.Dec.{ltb, leb, eqb}
-use borrow.Author.Tests.{eqb-true, eq-eqb, ne_eqb, leb-true, leb-false, le_leb, lt_leb, ltb-true, ltb-false, lt-ltb, le-ltb, not_false}
+use borrow.Author.Tests.{eqb-true, eq-eqb, ne_eqb, leb-true, leb-false, le-leb, lt-leb, ltb-true, ltb-false, lt-ltb, le-ltb, not-false}
 use Rattle.units.specs.Units.{field}
 use Rattle.units.specs.Choice.{pick}
 use Rattle.units.proofs.Choices.{picked, passed, or_true, and_true}
@@ -128,11 +128,11 @@ uart_says kind rule word sh uart e =
 
 uart_timed : (rule : TimeRule) (word : ℕ) → word % 2 ^ 31 ≡ 0 → 2 ^ 31 ≤ word → uart_shape rule word ≡ Shaped (shape_of Stamped to_the_end rule)
 unfolding uart_shape
-uart_timed rule word bits high = rw (eq-eqb (word % 2 ^ 31) 0 bits, le_leb (2 ^ 31) word high)
+uart_timed rule word bits high = rw (eq-eqb (word % 2 ^ 31) 0 bits, le-leb (2 ^ 31) word high)
 
 uart_untimed : (rule : TimeRule) (word : ℕ) → word % 2 ^ 31 ≡ 0 → word < 2 ^ 31 → uart_shape rule word ≡ Shaped (shape_of Plain to_the_end rule)
 unfolding uart_shape
-uart_untimed rule word bits low = rw (eq-eqb (word % 2 ^ 31) 0 bits, lt_leb (2 ^ 31) word low)
+uart_untimed rule word bits low = rw (eq-eqb (word % 2 ^ 31) 0 bits, lt-leb (2 ^ 31) word low)
 
 -- ---- the channel word of a body
 
@@ -145,7 +145,7 @@ module _ (kind : ℕ) (rule : TimeRule) (bs : List ℕ) where
       let x₀ : Opened = pick (ltb (length bs) 4) Wrong x₁ in
       let p = passed (not (opens kind)) Carried x₀ (Shaped sh) (λ q. let z : ◌≡◌ {A = ℕ} 0 1 = cc in omega arith) e in
       let q = passed (ltb (length bs) 4) Wrong x₁ (Shaped sh) (λ q. let z : ◌≡◌ {A = ℕ} 0 1 = cc in omega arith) p.1 in
-      (ltb-false (length bs) 4 q.0, by ((opens_exactly kind).0 (not_false (opens kind) p.0)) q.1)
+      (ltb-false (length bs) 4 q.0, by ((opens_exactly kind).0 (not-false (opens kind) p.0)) q.1)
     where
       by : OpenedType kind → shape_by kind rule (field bs 0 4) ≡ Shaped sh → Says kind rule (field bs 0 4) sh
       by (inl k) h = message_says kind rule (field bs 0 4) k sh (rw k at h)

@@ -8,7 +8,7 @@ use native.Mathlib.Numerals.{add-one}
 use lib.ListN.{length, drop, get_or, set, length-append}
 use lib.Seq.{drop-cons, set_at}
 use lib.Dec.{eqb}
-use borrow.Author.Tests.{eqb-true, le_leb, lt_leb, lt-ltb, le-ltb}
+use borrow.Author.Tests.{eqb-true, le-leb, lt-leb, lt-ltb, le-ltb}
 use Rattle.units.specs.Choice.{pick}
 use Rattle.body.specs.Walk.{open_body, stamp_length, head_at, block_end, block_at, stop_at, ending, walk_from, walk}
 use Rattle.terms.specs.Refusals.{fault}
@@ -149,11 +149,11 @@ fill_next k f old now v h e is =
 module _ (r q : ℕ) (w : Checked) where
   pub list_short : (n : ℕ) → w ≡ Counted n → min r q < n → NoRoom n ≡ list_counted r q w
   unfolding list_counted
-  list_short n e h = simp (e, lt_leb n (min r q) h)
+  list_short n e h = simp (e, lt-leb n (min r q) h)
 
   pub list_room : (n : ℕ) → w ≡ Counted n → n ≤ min r q → Count n ≡ list_counted r q w
   unfolding list_counted
-  list_room n e h = simp (e, le_leb n (min r q) h)
+  list_room n e h = simp (e, le-leb n (min r q) h)
 
   pub list_faulty : (f : Refusal) → w ≡ Faulty f → Unlisted f ≡ list_counted r q w
   unfolding list_counted

@@ -5,7 +5,7 @@ use mathlib.Core.Bool.{false}
 use Prim.Native.Nat.{ℕ, ◌+◌, ◌≤◌, ◌<◌}
 use native.Mathlib.Omega.{arith}
 use lib.ListN.{length}
-use borrow.Author.Tests.{lt-ltb, le_leb, lt_leb, le-ltb}
+use borrow.Author.Tests.{lt-ltb, le-leb, lt-leb, le-ltb}
 use Rattle.body.specs.Walk.{stamp_length, head_at, judge, block_at, stop_at, walk}
 use Rattle.terms.specs.Refusals.{fault}
 use Rattle.body.specs.inner.Walks.{stepped, walked}
@@ -20,18 +20,18 @@ use Rattle.body.proofs.Bounds.{broken_at}
 -- nothing there
 pub none_there : (sh : Shape) (bs : List ℕ) (at : ℕ) → length bs ≤ at → Broken (fault at 7) ≡ block_at sh bs at
 unfolding block_at
-none_there sh bs at h = simp (le_leb (length bs) at h)
+none_there sh bs at h = simp (le-leb (length bs) at h)
 
 -- a head that is not whole
 pub cut_short : (sh : Shape) (bs : List ℕ) (at : ℕ) → at < length bs → length bs < at + stamp_length sh.form + 4 → Broken (fault at 2) ≡ block_at sh bs at
 unfolding block_at
-cut_short sh bs at some h = simp (lt_leb (length bs) at some, lt-ltb (length bs) (at + stamp_length sh.form + 4) h)
+cut_short sh bs at some h = simp (lt-leb (length bs) at some, lt-ltb (length bs) (at + stamp_length sh.form + 4) h)
 
 -- a head that is whole is judged
 pub judged : (sh : Shape) (bs : List ℕ) (at : ℕ) (m : Message) → at + stamp_length sh.form + 4 ≤ length bs → m ≡ head_at sh.form bs at
     → judge sh.rule bs at m ≡ block_at sh bs at
 unfolding block_at
-judged sh bs at m h e = simp (lt_leb (length bs) at (omega (arith, h)), le-ltb (length bs) (at + stamp_length sh.form + 4) h, e)
+judged sh bs at m h e = simp (lt-leb (length bs) at (omega (arith, h)), le-ltb (length bs) (at + stamp_length sh.form + 4) h, e)
 
 -- a turn of the loop, where x is what the block at `at` comes to: a reason ends the walk there, none goes on
 module _ (sh : Shape) (bs : List ℕ) (k at : ℕ) (x : Walked) (now : Counting sh bs k at) (on : stop_at sh (length bs) k at ≡ false) (is : x ≡ stepped (block_at sh bs at)) where

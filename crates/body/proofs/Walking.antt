@@ -7,7 +7,7 @@ use native.Mathlib.Omega.{arith}
 use native.Mathlib.Numerals.{add-one}
 use lib.ListN.{length}
 use lib.Dec.{ltb, leb, eqb}
-use borrow.Author.Tests.{ltb-false, eqb-false, not_false, lt_leb, lt-ltb, le-ltb, eq-eqb, ne_eqb}
+use borrow.Author.Tests.{ltb-false, eqb-false, not-false, lt-leb, lt-ltb, le-ltb, eq-eqb, ne_eqb}
 use Rattle.units.specs.Units.{part, field, zeros}
 use Rattle.units.specs.Choice.{pick}
 use Rattle.units.proofs.Choices.{passed}
@@ -58,9 +58,9 @@ found_stands sh bs at m next e =
       says = sym is;
       next_is = sym n ∙ ap (λ (x : Message). block_end x) is;
       fits = omega (arith, ltb-false (length bs) (block_end h) p₂.0, n);
-      time_ok_lem = rw (← is) (not_false (time_ok sh.rule h.time) p₃.0);
+      time_ok_lem = rw (← is) (not-false (time_ok sh.rule h.time) p₃.0);
       some = rw (← is) (above h.length some);
-      pad = rw (← is) (not_false pad p₅.0);
+      pad = rw (← is) (not-false pad p₅.0);
     }
   where
     above : (n : ℕ) → eqb n 0 ≡ false → 0 < n
@@ -72,7 +72,7 @@ stands_found sh bs at m next s =
     let f : block_end m ≤ length bs = omega (arith, s.next_is, s.fits) in
     rw (← s.says)
     (simp (
-      lt_leb (length bs) at (omega (arith, s.head)),
+      lt-leb (length bs) at (omega (arith, s.head)),
       le-ltb (length bs) (at + stamp_length sh.form + 4) s.head,
       le-ltb (length bs) (block_end m) f,
       s.time_ok_lem,

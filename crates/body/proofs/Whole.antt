@@ -9,7 +9,7 @@ use native.Mathlib.Nat.{add-zero}
 use lib.ListN.{length, take, get_or, replicate, length-append, length-replicate}
 use lib.Seq.{append_snoc, take-add, take-length}
 use lib.Dec.{ltb, leb, eqb}
-use borrow.Author.Tests.{ltb-true, leb-true, leb-false, le_leb, lt_leb, lt-ltb, ne_eqb}
+use borrow.Author.Tests.{ltb-true, leb-true, leb-false, le-leb, lt-leb, lt-ltb, ne_eqb}
 use Rattle.units.specs.Units.{Bytes, part, field, num, bytes_of}
 use Rattle.units.specs.Choice.{pick}
 use Rattle.units.proofs.Numbers.{length_bytes_of, num_bytes_of, zeros_replicate, zeros_are}
@@ -137,16 +137,16 @@ module _ (sh : Shape) (bs : List ℕ) (n : ℕ) where
   stop_last counted pos = go sh.counted refl
     where
       go : (b : Bool) → sh.counted ≡ b → pick b (leb sh.count n) (ltb 0 n && leb (length bs) (length bs)) ≡ true
-      go true c = le_leb sh.count n (omega (arith, counted c))
-      go false c = rw (lt-ltb 0 n pos, le_leb (length bs) (length bs) (omega arith))
+      go true c = le-leb sh.count n (omega (arith, counted c))
+      go false c = rw (lt-ltb 0 n pos, le-leb (length bs) (length bs) (omega arith))
 
   pub on_before : (sh.counted ≡ true → n ≤ sh.count) → (k at : ℕ) → k < n → at < length bs → stop_at sh (length bs) k at ≡ false
   unfolding stop_at
   on_before counted k at h l = go sh.counted refl
     where
       go : (b : Bool) → sh.counted ≡ b → pick b (leb sh.count k) (ltb 0 k && leb (length bs) at) ≡ false
-      go true c = lt_leb sh.count k (omega (arith, counted c))
-      go false c = rw (lt_leb (length bs) at l) (and-false (ltb 0 k))
+      go true c = lt-leb sh.count k (omega (arith, counted c))
+      go false c = rw (lt-leb (length bs) at l) (and-false (ltb 0 k))
 
 -- ---- from a body that is accepted to blocks
 

@@ -1,5 +1,7 @@
 // Opened bodies: how many messages a body holds, one by its number, and all their places.
 // A body is taken with its type and the rule of its time stamps; places are counted from its first byte.
+#![tactic(auto)]
+
 ghost use Rattle.std.specs.Prelude.{◌≡◌, ◌+◌, ◌≤◌, ◌^◌, length};
 ghost use Rattle.body.specs.Answers.{check_body, message_at, list_of, message_in, filled_after, starts_of, lengths_of};
 
@@ -14,7 +16,7 @@ use walk::{walk_body, walk_refusal};
 
 // How a block is formed, which is all that differs between the blocks of the opened types: without a time stamp ahead of its ID
 // word, or with one.
-#[derive(Drop)]
+#[derive(Clone, Copy)]
 pub enum Form {
     Plain,
     Stamped,
@@ -22,7 +24,7 @@ pub enum Form {
 
 // What the channel word says of the blocks behind it: their form, whether there are `count` of them (or one or more, to the end
 // of the body), and the rule of their times.
-#[derive(Drop)]
+#[derive(Clone, Copy)]
 pub struct Shape {
     pub form: Form,
     pub counted: bool,
@@ -31,7 +33,7 @@ pub struct Shape {
 }
 
 // A body by its type and channel word: not looked into, its shape, or a wrong channel word.
-#[derive(Drop)]
+#[derive(Clone, Copy)]
 pub enum Opened {
     Carried,
     Shaped(Shape),
@@ -39,7 +41,7 @@ pub enum Opened {
 }
 
 // One message: its time (0 if none is stored), its ID word, and the place and number of its bytes.
-#[derive(Drop)]
+#[derive(Clone, Copy)]
 pub struct Message {
     pub time: u64,
     pub id: u32,
@@ -48,7 +50,7 @@ pub struct Message {
 }
 
 // A block: its message and the place behind it, or the refusal.
-#[derive(Drop)]
+#[derive(Clone, Copy)]
 pub enum Block {
     Found(Message, usize),
     Broken(Refusal),
@@ -56,21 +58,21 @@ pub enum Block {
 
 // What a block, or the walk over all of them, comes to, in two numbers: 0 and the place behind the block, or how many messages there
 // are; or the reason of the first fault and its place.
-#[derive(Drop)]
+#[derive(Clone, Copy)]
 pub struct Walked {
     pub reason: u8,
     pub number: usize,
 }
 
 // The number of messages in a body, or the refusal.
-#[derive(Drop)]
+#[derive(Clone, Copy)]
 pub enum Checked {
     Counted(usize),
     Faulty(Refusal),
 }
 
 // One message, the body's refusal, or no message of that number (17).
-#[derive(Drop)]
+#[derive(Clone, Copy)]
 pub enum Picked {
     One(Message),
     Unread(Refusal),
@@ -78,7 +80,7 @@ pub enum Picked {
 }
 
 // The number of messages listed, the body's refusal, or the number that there is no room for (16).
-#[derive(Drop)]
+#[derive(Clone, Copy)]
 pub enum Listed {
     Count(usize),
     Unlisted(Refusal),

@@ -1,7 +1,7 @@
 -- Laws of the builder's steps: what an answer says of the tests behind it, and what a step leaves in its buffer.
 use Rattle.std.proofs.Common.{◌≡◌, ℕ, ◌+◌, ◌*◌, ◌%◌, ◌^◌, ◌<◌, ◌≤◌, Bool, true, false, not, ◌&&◌, ◌||◌, eqb, ltb, leb, List, ◌++◌, length, replicate, sym, refl, ap, arith, length-append, ltb-false, le-ltb, leb-false}
 use lib.ListN.{length-replicate}
-use borrow.Author.Tests.{eqb-false, not_false}
+use borrow.Author.Tests.{eqb-false, not-false}
 use Rattle.units.specs.Units.{bytes_of, splice}
 use Rattle.units.specs.Choice.{pick}
 use Rattle.units.proofs.Numbers.{length_bytes_of}
@@ -34,7 +34,7 @@ draft_facts d room e =
     let r = or_false outside under q.0 in (
       ltb-false room d.used r.0,
       ltb-false d.used 4 r.1,
-      not_false (makes d.kind d.rule) q.1,
+      not-false (makes d.kind d.rule) q.1,
       (λ k. ltb-false 65535 d.blocks (few_blocks d.kind (ltb 65535 d.blocks) p.1 k)),
     )
 
@@ -73,7 +73,7 @@ open_done d kind rule room d' e =
     let p = passed (not (makes kind rule)) _ _ _ (not_done _ d d') e in
     let q = passed (ltb room 4) _ _ _ (not_done _ d d') p.1 in
     let same : d' ≡ fresh = cc q.1 in
-    (not_false (makes kind rule) p.0, ltb-false room 4 q.0, same)
+    (not-false (makes kind rule) p.0, ltb-false room 4 q.0, same)
 
 -- a block that is added passed every test
 pub add_done : (d : Draft) (room time n : ℕ) (d' : Draft) → add_step d room time n ≡ Done d'

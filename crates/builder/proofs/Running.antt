@@ -2,7 +2,7 @@
 use Rattle.std.proofs.Common.{◌≡◌, ℕ, ◌+◌, ◌/◌, ◌%◌, ◌^◌, ◌<◌, ◌≤◌, Bool, true, false, not, ◌&&◌, ◌||◌, eqb, ltb, List, [], ◌∷◌, ◌++◌, length, take, drop, sym, refl, ap, ◌∙◌, subst, append_assoc, append-nil, arith, length-append, length-drop, take-append-drop, length-take-le, take_at, le-ltb, lt-ltb, ne_eqb, eqb-true}
 use lib.Arith.{digits_mod}
 use lib.Seq.{drop-append-le}
-use borrow.Author.Tests.{not_false}
+use borrow.Author.Tests.{not-false}
 use Rattle.units.specs.Units.{field, bytes_of, splice}
 use Rattle.units.specs.Choice.{pick}
 use Rattle.units.proofs.Numbers.{length_bytes_of, num_bytes_of}
@@ -30,9 +30,9 @@ use Rattle.builder.proofs.Drafts.{draft_facts, draft_good, block_facts, open_don
 time_taken : (st : Bool) (rule : TimeRule) (time : ℕ) → time < 2 ^ 64 → (st && not (time_ok rule time)) ≡ false → (not st && not (eqb time 0)) ≡ false
     → (time < 256 ^ stamp_length (form_by st)) × (time_ok rule time ≡ true)
 unfolding stamp_length
-time_taken true rule time wide e f = (omega arith, not_false (time_ok rule time) e)
+time_taken true rule time wide e f = (omega arith, not-false (time_ok rule time) e)
 time_taken false rule time wide e f =
-    let z : time ≡ 0 = eqb-true time 0 (not_false (eqb time 0) f) in
+    let z : time ≡ 0 = eqb-true time 0 (not-false (eqb time 0) f) in
     (omega arith, rw z (zero_ok rule))
 
 entry_fits : (form : Form) (rule : TimeRule) (time upper : ℕ) (bytes : List ℕ) → 0 < length bytes → length bytes < 65536 → upper < 2 ^ 16

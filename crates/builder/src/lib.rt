@@ -1,5 +1,7 @@
 // The body builder: makes 0x30 (type 00) and 0x50 bodies in a lent buffer.
 // A body's state goes into each step by value and comes back, also from a refused step, which leaves the buffer as it was.
+#![tactic(auto)]
+
 ghost use Rattle.std.specs.Prelude.{◌≡◌, ◌+◌, ◌^◌, ◌<◌, ◌≤◌, length};
 ghost use Rattle.units.specs.Units.{bytes_of, splice};
 ghost use Rattle.body.specs.Blocks.{block_bytes};
@@ -14,7 +16,7 @@ use units::{clear_at, copy_at, put16, put32, put64};
 
 // A body that is being built: its bytes used so far, its blocks, its type and its time rule
 // (0 none, 1 a counter below 2^48, 2 Chapter 4, 3 IEEE 1588, 4 extended counter).
-#[derive(Drop)]
+#[derive(Clone, Copy)]
 pub struct Draft {
     pub used: usize,
     pub blocks: u64,
@@ -23,7 +25,7 @@ pub struct Draft {
 }
 
 // What a step says: done, with the new state; or denied, with the state it was given.
-#[derive(Drop)]
+#[derive(Clone, Copy)]
 pub enum Step {
     Done(Draft),
     Denied(Refusal, Draft),

@@ -1,6 +1,8 @@
 // The C interface: each public call of the library, with its result in a lent struct of 64-bit words (include/ch11.h).
 // Each but ch11_renewal_next returns the refusal's number, 0 for none, which is also the struct's first word; specs/Calls.antt says all
 // that it leaves behind.
+#![tactic(auto)]
+
 ghost use Rattle.ch11.specs.Calls.{ReadPacket, ListMessages, GiveMessage, ReadRecording, WritePacket, Open, Add, Close, RenewalAdd, RenewalRenew, RenewalNext};
 
 use packet::{PacketRead, list_messages, message, read_packet};

@@ -1,4 +1,6 @@
 // The structs of include/ch11.h: an answer as the words of its struct, the refusal's first, then its own.
+#![tactic(auto)]
+
 ghost use Rattle.std.specs.Prelude.{◌≡◌, ◌+◌, ◌≤◌, length};
 ghost use Rattle.units.specs.Units.{splice};
 ghost use Rattle.builder.specs.Build.{step_told};

@@ -7,7 +7,7 @@ use native.Mathlib.Omega.{arith}
 use lib.ListN.{length, take, drop, length-append, get_or-append, take-append-drop}
 use lib.Seq.{length-take-le}
 use lib.Dec.{T, eqb, leb}
-use borrow.Author.Tests.{eqb-true, eq-eqb, leb-true, leb-false, le_leb, lt_leb}
+use borrow.Author.Tests.{eqb-true, eq-eqb, leb-true, leb-false, le-leb, lt-leb}
 use Rattle.units.specs.Units.{summed}
 use Rattle.units.specs.Choice.{pick}
 use Rattle.units.proofs.Choices.{and_true, same_test}
@@ -190,10 +190,10 @@ length_kept kind flags d some within =
     let p = length_for flags d in
     rw (
       eq-eqb (p % 4) 0 (omega arith),
-      le_leb p (limit kind) within,
-      le_leb 1 d some,
-      le_leb (unfilled_length flags d) p (omega arith),
-      le_leb p (unfilled_length flags d + 3) (omega arith),
+      le-leb p (limit kind) within,
+      le-leb 1 d some,
+      le-leb (unfilled_length flags d) p (omega arith),
+      le-leb p (unfilled_length flags d + 3) (omega arith),
     )
 
 -- the code's tests of the lengths
@@ -202,8 +202,8 @@ unfolding limit
 limit_small kind p h = go (eqb kind 0x01)
   where
     go : (b : Bool) → true ≡ leb p (pick b 134217728 524288)
-    go true = sym (le_leb p 134217728 (omega arith))
-    go false = sym (le_leb p 524288 h)
+    go true = sym (le-leb p 134217728 (omega arith))
+    go false = sym (le-leb p 524288 h)
 
 pub limit_large : (kind p : ℕ) → 524288 < p → (eqb kind 0x01 && leb p 134217728) ≡ leb p (limit kind)
 unfolding limit
@@ -211,7 +211,7 @@ limit_large kind p h = go (eqb kind 0x01)
   where
     go : (b : Bool) → (b && leb p 134217728) ≡ leb p (pick b 134217728 524288)
     go true = refl
-    go false = sym (lt_leb p 524288 h)
+    go false = sym (lt-leb p 524288 h)
 
 pub lengths_test : (kind flags p d q : ℕ) (within : Bool) → q ≡ length_for flags d → within ≡ leb p (limit kind)
     → (eqb p q && within && leb 1 d) ≡ lengths_ok kind flags p d
@@ -227,7 +227,7 @@ lengths_test kind flags p d q within is l = rw (is, l) (same_test _ (lengths_ok 
     made : lengths_ok kind flags p d ≡ true → (eqb p (length_for flags d) && leb p (limit kind) && leb 1 d) ≡ true
     made t =
         let l = lengths_say kind flags p d t in
-        rw (eq-eqb p (length_for flags d) (length_is kind flags p d t), le_leb p (limit kind) l.within, le_leb 1 d l.some)
+        rw (eq-eqb p (length_for flags d) (length_is kind flags p d t), le-leb p (limit kind) l.within, le-leb 1 d l.some)
 
 pub sound : (w : List ℕ) → first (head_lines w) ≡ 0 → first (values_in w) ≡ 0 → first (whole_lines w) ≡ 0 → Sound w
 unfolding whole_lines
@@ -255,7 +255,7 @@ module _ (v t : List ℕ) (header : 24 ≤ length v) where
   pub head_front : head_lines (v ++ t) ≡ head_lines v
   unfolding head_lines summed
   head_front =
-      let long : enough (v ++ t) ≡ enough v = le_leb 24 (length (v ++ t)) (omega (arith, length-append v t)) ∙ sym (le_leb 24 (length v) header) in
+      let long : enough (v ++ t) ≡ enough v = le-leb 24 (length (v ++ t)) (omega (arith, length-append v t)) ∙ sym (le-leb 24 (length v) header) in
       rw (long, byte_front 0 (omega arith), byte_front 1 (omega arith), sum_prefix 2 11 v t (omega arith), field_front v t 22 2 (omega arith))
 
   pub values_front : values_in (v ++ t) ≡ values_in v
@@ -325,8 +325,8 @@ module _ (v t : List ℕ) (header : 24 ≤ length v) (there : packet_length v �
   whole_front =
       rw (
         packet_length_front,
-        le_leb (packet_length v) (length (v ++ t)) (omega (arith, length-append v t)),
-        le_leb (packet_length v) (length v) there,
+        le-leb (packet_length v) (length (v ++ t)) (omega (arith, length-append v t)),
+        le-leb (packet_length v) (length v) there,
       )
 
   secondary_lines_front : secondary_lines (v ++ t) ≡ secondary_lines v
@@ -366,14 +366,14 @@ own_bytes_lem said front w u s same =
 
 pub short_2 : (w : List ℕ) → length w < 24 → first (frame_lines w) ≡ 2
 unfolding frame_lines head_lines first
-short_2 w h = rw (lt_leb 24 (length w) h)
+short_2 w h = rw (lt-leb 24 (length w) h)
 
 cut_10 : (w : List ℕ) → first (head_lines w) ≡ 0 → first (values_in w) ≡ 0 → length w < packet_length w → first (frame_lines w) ≡ 10
 unfolding frame_lines whole_lines first
 cut_10 w head values h =
     stage_none (head_lines w) _ (head_numbered w) head
     ∙ stage_none (values_in w) _ (value_numbered _ _ _ _ _ _) values
-    ∙ rw (lt_leb (packet_length w) (length w) h)
+    ∙ rw (lt-leb (packet_length w) (length w) h)
 
 -- a number that is neither 2 nor 10 stays
 pub frame_longer : (v t : List ℕ) → (first (frame_lines v) ≡ 2 → ⊥) → (first (frame_lines v) ≡ 10 → ⊥) → first (frame_lines (v ++ t)) ≡ first (frame_lines v)

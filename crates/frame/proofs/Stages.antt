@@ -7,7 +7,7 @@ use native.Mathlib.Omega.{arith}
 use native.Mathlib.Nat.{mod-one}
 use lib.ListN.{length}
 use lib.Dec.{T, eqb}
-use borrow.Author.Tests.{le_leb, lt_leb}
+use borrow.Author.Tests.{le-leb, lt-leb}
 use Rattle.units.specs.Units.{part, num, field, sum_units, summed, zeros}
 use Rattle.frame.specs.Sums.{sum_width, secondary_sum, data_sum}
 use Rattle.units.proofs.Parts.{field_part}
@@ -27,11 +27,11 @@ stage_past xs ys n p z e = e ∙ sym (stage_none xs ys p z)
 
 pub not_whole : (w : List ℕ) → length w < packet_length w → 10 ≡ first (whole_lines w)
 unfolding whole_lines
-not_whole w h = stands 10 [] (lt_leb (packet_length w) (length w) h)
+not_whole w h = stands 10 [] (lt-leb (packet_length w) (length w) h)
 
 pub is_whole : (w : List ℕ) → packet_length w ≤ length w → first (whole_lines w) ≡ 0
 unfolding whole_lines
-is_whole w h = sym (passes 10 0 [] (le_leb (packet_length w) (length w) h) none)
+is_whole w h = sym (passes 10 0 [] (le-leb (packet_length w) (length w) h) none)
 
 -- ---- 11 and 12
 

@@ -4,7 +4,7 @@ use mathlib.Core.List.{List, [], ◌∷◌, ◌++◌}
 use mathlib.Core.Bool.{Bool, true, false, not, ◌&&◌}
 use Prim.Native.Nat.{ℕ}
 use lib.Dec.{T, ltb}
-use borrow.Author.Tests.{not-true, not_false}
+use borrow.Author.Tests.{not-true, not-false}
 use Rattle.frame.specs.Table.{Line, line, first}
 
 -- ---- to an answer
@@ -24,7 +24,7 @@ pub broken : {b t : Bool} → b ≡ t → not b ≡ true → t ≡ false
 broken {b} e p = sym e ∙ not-true b p
 
 pub kept : {b t : Bool} → b ≡ t → not b ≡ false → t ≡ true
-kept {b} e p = sym e ∙ not_false b p
+kept {b} e p = sym e ∙ not-false b p
 
 pub none : 0 ≡ first []
 unfolding first

@@ -1,5 +1,7 @@
 // What a packet is framed in: its headers, lengths, sums and filler, but not its body's inside.
 // A window's bytes are taken from the packet's first on; places are counted from it.
+#![tactic(auto)]
+
 pub mod head;
 pub mod rules;
 pub mod sums;
@@ -7,7 +9,7 @@ pub mod table;
 
 // What a packet holds but for its body, and what a writer is told: the primary header's numbers that are not worked out, and
 // the secondary header's time (0 if absent).
-#[derive(Drop)]
+#[derive(Clone, Copy)]
 pub struct Fields {
     pub channel: u16,
     pub version: u8,
@@ -19,7 +21,7 @@ pub struct Fields {
 }
 
 // Where body, filler and sum begin.
-#[derive(Drop)]
+#[derive(Clone, Copy)]
 pub struct Layout {
     pub body: usize,
     pub filler: usize,

@@ -1,5 +1,7 @@
 // Lists the packets of a recording on standard input, up to 65,536 bytes (document 01, "The listing program"): fourteen lines for
 // each accepted packet, then the number of packets, the bytes that they cover, and the refusal that ended the reading, or 0.
+#![tactic(auto)]
+
 ghost use Rattle.std.specs.Prelude.{◌≡◌, ◌≤◌, length};
 ghost use Rattle.io.specs.Counts.{IsPrefixLen};
 ghost use Rattle.packet.specs.Read.{window, read_packet};
@@ -84,7 +86,7 @@ fn list(buf: &[u8]) -> bool {
 }
 
 // How much standard input gave, and whether a read of it failed.
-#[derive(Drop)]
+#[derive(Clone, Copy)]
 struct Input {
     filled: usize,
     failed: bool,

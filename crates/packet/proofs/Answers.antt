@@ -7,7 +7,7 @@ use native.Mathlib.Omega.{arith}
 use native.Mathlib.Decide.{dec_le}
 use lib.ListN.{length}
 use lib.Dec.{leb, ltb}
-use borrow.Author.Tests.{le_leb, lt_leb, lt-ltb, le-ltb, ltb-true}
+use borrow.Author.Tests.{le-leb, lt-leb, lt-ltb, le-ltb, ltb-true}
 use Rattle.units.specs.Units.{part, field}
 use Rattle.units.specs.Choice.{pick}
 use Rattle.units.proofs.Parts.{length_part}
@@ -131,8 +131,8 @@ room_same : (at body m n : ℕ) → from_listed at body (pick (leb n m) (Count n
 room_same at body m n = go (dec_le n m)
   where
     go : Dec (n ≤ m) → from_listed at body (pick (leb n m) (Count n) (NoRoom n)) ≡ pick (ltb m n) (Unlisted (needing n (refused 16 at))) (Listed n)
-    go (yes h) = rw (le_leb n m h, le-ltb m n h)
-    go (no h) = rw (lt_leb n m (omega arith), lt-ltb m n (omega arith))
+    go (yes h) = rw (le-leb n m h, le-ltb m n h)
+    go (no h) = rw (lt-leb n m (omega arith), lt-ltb m n (omega arith))
 
 pub listed_is : (w : List ℕ) (at len₁ len₂ : ℕ) (c : Checked)
     → from_listed at (body_at (flags_in w)) (list_counted len₁ len₂ c) ≡ list_answer (pass_body c w at) at (count_of c) (min len₁ len₂)
@@ -204,8 +204,8 @@ number_same : (at body k n : ℕ) (m : Message) → from_picked at body (pick (l
 number_same at body k n m = go (dec_le n k)
   where
     go : Dec (n ≤ k) → from_picked at body (pick (ltb k n) (One m) Missing) ≡ pick (leb n k) (Withheld (refused 17 at)) (Given (in_packet body m))
-    go (yes h) = rw (le_leb n k h, le-ltb k n h)
-    go (no h) = rw (lt_leb n k (omega arith), lt-ltb k n (omega arith))
+    go (yes h) = rw (le-leb n k h, le-ltb k n h)
+    go (no h) = rw (lt-leb n k (omega arith), lt-ltb k n (omega arith))
 
 pub picked_is : (w : List ℕ) (at k : ℕ) (m : Message) (c : Checked)
     → from_picked at (body_at (flags_in w)) (pick_counted k m c) ≡ message_answer (pass_body c w at) at (count_of c) k (in_packet (body_at (flags_in w)) m)

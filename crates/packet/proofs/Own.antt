@@ -4,7 +4,7 @@ use mathlib.Core.List.{List, ◌++◌}
 use Prim.Native.Nat.{ℕ, ◌+◌, ◌≤◌, ◌<◌}
 use native.Mathlib.Omega.{arith}
 use lib.ListN.{length}
-use borrow.Author.Tests.{not_false}
+use borrow.Author.Tests.{not-false}
 use mathlib.Core.Bool.{not}
 use Rattle.units.specs.Units.{part}
 use Rattle.units.proofs.Choices.{passed}
@@ -44,7 +44,7 @@ accepted_at buf s e base p h = go (pass_window buf s e base) refl h
     go (Passed n) q a =
         let w = window buf s e in
         let k = passed (not (inside buf s e base)) (Barred (refused 1 s)) (pass_bytes w s) (Passed n) (barred_passed _ n) q in
-        let i = inside_says buf s e base (not_false (inside buf s e base) k.0) in
+        let i = inside_says buf s e base (not-false (inside buf s e base) k.0) in
         let b = bytes_passed w s n k.1 in
         let is : p ≡ packet_in w s base = cc a in
         let long : n ≡ p.length = b.long ∙ packet_in_length w s base ∙ sym (ap (λ (x : Packet). x.length) is) in

@@ -6,7 +6,7 @@ use Prim.Native.Nat.{ℕ, ◌+◌, ◌-◌, ◌^◌, ◌≤◌, ◌<◌, min}
 use native.Mathlib.Omega.{arith}
 use lib.ListN.{length}
 use lib.Dec.{leb, ltb, eqb}
-use borrow.Author.Tests.{le_leb, leb-true, lt-ltb, ltb-true, ne_eqb, eqb-true, not_false}
+use borrow.Author.Tests.{le-leb, leb-true, lt-ltb, ltb-true, ne_eqb, eqb-true, not-false}
 use Rattle.units.specs.Choice.{pick}
 use Rattle.units.proofs.Choices.{and_true, passed, same_test}
 use Rattle.units.proofs.Parts.{length_part}
@@ -48,11 +48,11 @@ inside_says buf s e base h =
 
 pub inside_made : (buf : List ℕ) (s e base : ℕ) → Inside buf s e base → inside buf s e base ≡ true
 unfolding inside
-inside_made buf s e base i = rw (le_leb s e i.ordered, le_leb e (length buf) i.within, lt-ltb (base + (e - s)) (2 ^ 64) i.fits)
+inside_made buf s e base i = rw (le-leb s e i.ordered, le-leb e (length buf) i.within, lt-ltb (base + (e - s)) (2 ^ 64) i.fits)
 
 pub inside_same : (a b : List ℕ) (s e base : ℕ) → e ≤ length a → e ≤ length b → inside a s e base ≡ inside b s e base
 unfolding inside
-inside_same a b s e base h g = rw (le_leb e (length a) h, le_leb e (length b) g)
+inside_same a b s e base h g = rw (le-leb e (length a) h, le-leb e (length b) g)
 
 -- the code's test: the last place that the base leaves
 pub inside_code : (buf : List ℕ) (s e base : ℕ) → base < 2 ^ 64 → (leb s e && leb e (length buf)) ≡ true → leb (e - s) (0xFFFFFFFFFFFFFFFF - base) ≡ inside buf s e base
@@ -61,7 +61,7 @@ inside_code buf s e base small h =
     rw h
     (same_test (leb (e - s) (0xFFFFFFFFFFFFFFFF - base)) (ltb (base + (e - s)) (2 ^ 64))
     (λ t. lt-ltb (base + (e - s)) (2 ^ 64) (omega (arith, small, leb-true (e - s) (0xFFFFFFFFFFFFFFFF - base) t)))
-    (λ t. le_leb (e - s) (0xFFFFFFFFFFFFFFFF - base) (omega (arith, small, ltb-true (base + (e - s)) (2 ^ 64) t))))
+    (λ t. le-leb (e - s) (0xFFFFFFFFFFFFFFFF - base) (omega (arith, small, ltb-true (base + (e - s)) (2 ^ 64) t))))
 
 pub inside_not : (buf : List ℕ) (s e base : ℕ) → (leb s e && leb e (length buf)) ≡ false → (leb s e && leb e (length buf)) ≡ inside buf s e base
 unfolding inside
@@ -129,7 +129,7 @@ bytes_passed w at n h =
     let f = first (frame_lines w) in
     let k = passed (not (eqb f 0)) (Barred (refused f at)) (pass_body (body_checked w) w at) (Passed n) (barred_passed _ n) h in
     let b = from_body (body_checked w) w at n k.1 in
-    let z = eqb-true f 0 (not_false (eqb f 0) k.0) in
+    let z = eqb-true f 0 (not-false (eqb f 0) k.0) in
     record { framed = z; sound = frame_sound w z; count = b.0; body = b.1; long = b.2 }
 
 pub passed_bytes : (w : List ℕ) (at n : ℕ) → PassedBytes w n → pass_bytes w at ≡ Passed n

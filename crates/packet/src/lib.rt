@@ -1,5 +1,7 @@
 // One packet: the reader, the lister, a message by its number, and the writer.
 // A window is a buffer, a start and a filled end; nothing outside it has a say. A base says where its start stands in the recording.
+#![tactic(auto)]
+
 ghost use Rattle.std.specs.Prelude.{◌≡◌, length, ◌+◌, ◌^◌, ◌<◌};
 ghost use Rattle.terms.specs.Refusals.{refused, recorded};
 ghost use Rattle.packet.specs.Read.{inside, window, pass_bytes, read_packet};
@@ -22,7 +24,7 @@ use framed::{list_bytes, message_bytes, packet_in, pass_framed};
 use writing::{fit, writer_refusal};
 
 // A part of a packet: where it stands in the buffer, and how many bytes it has.
-#[derive(Drop)]
+#[derive(Clone, Copy)]
 pub struct Part {
     pub at: usize,
     pub length: usize,
@@ -30,7 +32,7 @@ pub struct Part {
 
 // An accepted packet: its fields; P and D; the header sum and the data sum (0 if absent) as stored; its place in the recording; and
 // its five parts, which stand one behind the other and make up P. An absent part has length 0, at the place where it would stand.
-#[derive(Drop)]
+#[derive(Clone, Copy)]
 pub struct Packet {
     pub fields: Fields,
     pub length: u32,
@@ -45,35 +47,35 @@ pub struct Packet {
     pub sum: Part,
 }
 
-#[derive(Drop)]
+#[derive(Clone, Copy)]
 pub enum PacketRead {
     Accepted(Packet),
     Refused(Refusal),
 }
 
 // What the reader's tests say of a packet: its length, or the refusal, whose place in the recording is not set.
-#[derive(Drop)]
+#[derive(Clone, Copy)]
 pub enum PacketPass {
     Passed(u32),
     Barred(Refusal),
 }
 
 // The number of messages listed, or the refusal.
-#[derive(Drop)]
+#[derive(Clone, Copy)]
 pub enum PacketList {
     Listed(usize),
     Unlisted(Refusal),
 }
 
 // A message, its start counted from the packet's first byte, or the refusal.
-#[derive(Drop)]
+#[derive(Clone, Copy)]
 pub enum PacketMessage {
     Given(Message),
     Withheld(Refusal),
 }
 
 // The length of the packet written, or the refusal.
-#[derive(Drop)]
+#[derive(Clone, Copy)]
 pub enum PacketWrite {
     Written(usize),
     Unwritten(Refusal),

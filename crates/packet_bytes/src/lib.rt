@@ -1,4 +1,6 @@
 // The bytes of a packet, put down in an output.
+#![tactic(auto)]
+
 ghost use Rattle.std.specs.Prelude.{◌≡◌, ◌+◌, ◌-◌, ◌^◌, ◌≤◌, ◌<◌, length, replicate, ◌++◌, ◌∷◌, []};
 ghost use Rattle.units.specs.Units.{splice};
 ghost use Rattle.frame.specs.Header.{secondary_length, body_at, length_for};

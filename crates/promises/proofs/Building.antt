@@ -7,7 +7,7 @@ use Prim.Native.Nat.{ℕ, zero, suc, ◌+◌, ◌*◌, ◌/◌, ◌%◌, ◌^◌
 use native.Mathlib.Omega.{arith}
 use lib.ListN.{length, take, drop, replicate}
 use lib.Dec.{ltb, leb, eqb}
-use borrow.Author.Tests.{eqb-true, eq-eqb, ne_eqb, ltb-true, lt-ltb, le-ltb, lt_leb}
+use borrow.Author.Tests.{eqb-true, eq-eqb, ne_eqb, ltb-true, lt-ltb, le-ltb, lt-leb}
 use Rattle.units.specs.Units.{bytes_of, splice}
 use Rattle.units.specs.Choice.{pick}
 use Rattle.units.proofs.Numbers.{bytes_of_add, bytes_of_mod}
@@ -80,7 +80,7 @@ block_made : (d : Draft) (n : ℕ) → Takes d n → bad_block d n ≡ false
 block_made d n t = rw (ne_eqb n 0 (λ z. omega (arith, t.some)), le-ltb 65535 n t.most) (go (counts d.kind) refl)
   where
     go : (b : Bool) → counts d.kind ≡ b → (b && leb 65535 d.blocks) ≡ false
-    go true e = lt_leb 65535 d.blocks (t.few (counts_says d.kind e))
+    go true e = lt-leb 65535 d.blocks (t.few (counts_says d.kind e))
     go false e = refl
 
 -- 15

@@ -10,7 +10,7 @@ use native.Mathlib.Nat.{zero-add, add-zero}
 use lib.ListN.{length, take, drop, get_or, length-append, length-drop, take-append-drop}
 use lib.Seq.{length-take-le, drop_at, drop-drop, get_or-drop}
 use lib.Dec.{ltb, leb, eqb}
-use borrow.Author.Tests.{ltb-false, leb-true, leb-false, eqb-true, eqb-false, le_leb, lt_leb, lt-ltb}
+use borrow.Author.Tests.{ltb-false, leb-true, leb-false, eqb-true, eqb-false, le-leb, lt-leb, lt-ltb}
 use Rattle.units.specs.Units.{Bytes, part, zeros, num, field}
 use Rattle.units.proofs.Choices.{and_true}
 use Rattle.terms.specs.Times.{time_ok}
@@ -234,9 +234,9 @@ module _ (form : Form) (rule : TimeRule) (len k at : ℕ) (rest : List ℕ) (l :
 
   due_going : (asked : Asked) → Due asked k rest → stop_at (shape_of form asked rule) len k at ≡ false
   unfolding stop_at
-  due_going (exactly count) due = lt_leb count k due
+  due_going (exactly count) due = lt-leb count k due
   due_going to_the_end (inl e) = rw e refl
-  due_going to_the_end (inr h) = rw (lt_leb len at (omega (arith, l))) (and-false (ltb 0 k))
+  due_going to_the_end (inr h) = rw (lt-leb len at (omega (arith, l))) (and-false (ltb 0 k))
 
   -- where it stops before the end, as many blocks as counted are behind it
   stopped_over : (asked : Asked) → stop_at (shape_of form asked rule) len k at ≡ true → 1 ≤ length rest → (asked ≡ exactly (count_by asked)) × (count_by asked ≤ k)
@@ -455,7 +455,7 @@ module _ (kind : ℕ) (rule : TimeRule) (bs : List ℕ) (form : Form) (asked : A
   begins_over : counted_by asked ≡ true → length es ≡ count_by asked → 1 ≤ length rest → RefusedAt kind rule bs place 6
   unfolding stop_at
   begins_over c n more =
-      let stop : stop_at its_shape (length bs) (length es) place ≡ true = rw c (le_leb (count_by asked) (length es) (omega arith)) in
+      let stop : stop_at its_shape (length bs) (length es) place ≡ true = rw c (le-leb (count_by asked) (length es) (omega arith)) in
       check_shaped kind rule bs its_shape opened
       ∙ counting_stop its_shape bs (length es) place begins_come stop
       ∙ ending_over (length bs) (length es) place (λ e. omega (arith, begins_left.0))

@@ -11,7 +11,7 @@ use native.Mathlib.Nat.{mod-one, mul-div-le}
 use lib.ListN.{length, take, drop, get_or, length-take, take-append-drop, get_or-replicate}
 use lib.Seq.{get_or-take, get_or-drop}
 use lib.Dec.{eqb}
-use borrow.Author.Tests.{eqb-true, eq-eqb, leb-true, le_leb}
+use borrow.Author.Tests.{eqb-true, eq-eqb, leb-true, le-leb}
 use Rattle.units.specs.Units.{Bytes, part, field, sum_units, checksum, zeros}
 use Rattle.units.proofs.Choices.{and_true}
 use Rattle.units.proofs.Numbers.{zeros_true, zeros_are}
@@ -174,7 +174,7 @@ module _ (buf : List ℕ) (s e base : ℕ) (w : List ℕ) where
   passes₁ (within ordered filled fits) = inside_made buf s e base (record { ordered = ordered; within = filled; fits = omega (arith, fits) })
 
   passes₂ : Rule buf s e base w 2 → Rules.enough w ≡ true
-  passes₂ (enough h) = le_leb 24 (length w) h
+  passes₂ (enough h) = le-leb 24 (length w) h
 
   passes₃ : Rule buf s e base w 3 → Rules.synced w ≡ true
   passes₃ (synced h) = sync_made w h
@@ -198,7 +198,7 @@ module _ (buf : List ℕ) (s e base : ℕ) (w : List ℕ) where
   passes₉ (lengths h) = (lengths_exactly (kind_in w) (flags_in w) (P w) (D w)).1 h
 
   passes₁₀ : Rule buf s e base w 10 → Rules.whole w ≡ true
-  passes₁₀ (whole h) = le_leb (P w) (length w) h
+  passes₁₀ (whole h) = le-leb (P w) (length w) h
 
   passes₁₁ : body_at (flags_in w) ≤ length w → Rule buf s e base w 11 → Rules.secondary_summed w ≡ true
   passes₁₁ long (secondary_sum h) = (secondary_sum_exactly w long).1 h

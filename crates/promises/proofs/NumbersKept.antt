@@ -7,7 +7,7 @@ use Prim.Native.Nat.{ℕ, zero, suc, ◌+◌, ◌-◌, ◌*◌, ◌%◌, ◌^◌
 use native.Mathlib.Omega.{arith}
 use native.Mathlib.Decide.{dec_le}
 use lib.Dec.{leb, eqb}
-use borrow.Author.Tests.{eqb-true, eqb-false, eq-eqb, ne_eqb, leb-true, le_leb, ltb-true, lt-ltb, not-true}
+use borrow.Author.Tests.{eqb-true, eqb-false, eq-eqb, ne_eqb, leb-true, le-leb, ltb-true, lt-ltb, not-true}
 use Rattle.units.specs.Choice.{pick}
 use Rattle.units.proofs.Choices.{and_true, or_true}
 use Rattle.terms.specs.Times.{time_ok, rule_of}
@@ -24,7 +24,7 @@ use Rattle.promises.proofs.Members.{among, among_one}
 pub version_exactly : (v : ℕ) → (Rules.version_ok v ≡ true) ↔ VersionKept v
 version_exactly v = (
   λ t. let o = and_true (leb 1 v) (leb v 9) t in (leb-true 1 v o.0, leb-true v 9 o.1),
-  λ r. rw (le_leb 1 v r.0, le_leb v 9 r.1),
+  λ r. rw (le-leb 1 v r.0, le-leb v 9 r.1),
 )
 
 -- ---- 6: type, by computing the tests of the 35 and of all bytes
@@ -123,10 +123,10 @@ lengths_made : (k f p d : ℕ) → p % 4 ≡ 0 → p ≤ Rules.limit k → 1 ≤
 lengths_made k f p d fours most some parts few =
     rw (
       eq-eqb (p % 4) 0 fours,
-      le_leb p (Rules.limit k) most,
-      le_leb 1 d some,
-      le_leb (unfilled_length f d) p parts,
-      le_leb p (unfilled_length f d + 3) few,
+      le-leb p (Rules.limit k) most,
+      le-leb 1 d some,
+      le-leb (unfilled_length f d) p parts,
+      le-leb p (unfilled_length f d + 3) few,
     )
 
 -- what the test says, and back

@@ -44,7 +44,7 @@ stage_other xs ys n above other q = go (eqb (first xs) 0) refl
     go true h = let z = eqb-true (first xs) 0 h in (z, sym (stage_none xs ys above z) ∙ q)
     go false h =
         let is : first xs ≡ n = stage_some xs ys (first xs) refl (eqb-false (first xs) 0 h) ∙ q in
-        absurd (false≢true (sym other ∙ one_among n (0 ∷ numbers xs) (rw is at (first_one xs))))
+        absurd (false≢true (sym other ∙ one_among n (0 ∷ numbers xs) (subst (λ (k : ℕ). OneOf k (0 ∷ numbers xs)) is (first_one xs))))
 
 pub stage_front : (xs ys : List Line) (n : ℕ) → T (numbered xs) → among n (0 ∷ numbers ys) ≡ false → first (xs ++ ys) ≡ n → first xs ≡ n
 stage_front xs ys n above other q = go (eqb (first xs) 0) refl
@@ -52,13 +52,13 @@ stage_front xs ys n above other q = go (eqb (first xs) 0) refl
     go : (t : Bool) → eqb (first xs) 0 ≡ t → first xs ≡ n
     go true h =
         let is : first ys ≡ n = sym (stage_none xs ys above (eqb-true (first xs) 0 h)) ∙ q in
-        absurd (false≢true (sym other ∙ one_among n (0 ∷ numbers ys) (rw is at (first_one ys))))
+        absurd (false≢true (sym other ∙ one_among n (0 ∷ numbers ys) (subst (λ (k : ℕ). OneOf k (0 ∷ numbers ys)) is (first_one ys))))
     go false h = stage_some xs ys (first xs) refl (eqb-false (first xs) 0 h) ∙ q
 
 -- and so does a line whose rule is kept, if no line behind it has its number
 pub line_kept : (n : ℕ) (t : Bool) (lines : List Line) → t ≡ true → among n (0 ∷ numbers lines) ≡ false → first (line n t ∷ lines) ≢ n
 unfolding first
-line_kept n true lines kept other q = false≢true (sym other ∙ one_among n (0 ∷ numbers lines) (rw q at (first_one lines)))
+line_kept n true lines kept other q = false≢true (sym other ∙ one_among n (0 ∷ numbers lines) (subst (λ (k : ℕ). OneOf k (0 ∷ numbers lines)) q (first_one lines)))
 line_kept n false lines kept other q = false≢true kept
 
 -- ---- it is that of the first rule that is not kept

@@ -7,7 +7,7 @@ use native.Mathlib.Omega.{arith}
 use native.Mathlib.Decide.{dec_le}
 use lib.ListN.{length, take, drop, get_or, get_or-append}
 use lib.Seq.{get_or_at}
-use borrow.Author.Tests.{le_leb, lt_leb, le-ltb, lt-ltb}
+use borrow.Author.Tests.{le-leb, lt-leb, le-ltb, lt-ltb}
 use Rattle.units.specs.Units.{Bytes, part}
 use Rattle.units.proofs.Parts.{length_part, part_part}
 use Rattle.body.specs.Walk.{opens, stamp_length}
@@ -62,11 +62,11 @@ module _ (buf : List ℕ) (s e base : ℕ) (p : Packet) (n : ℕ) (h : read_pack
 
   gives_each : (k : ℕ) → k < n → message_packet buf s e base k ≡ Given (kth_message (window buf s e) k)
   unfolding message_packet message_answer
-  gives_each k more = rw (passes, count_is, lt_leb n k more)
+  gives_each k more = rw (passes, count_is, lt-leb n k more)
 
   gives_no_other : (k : ℕ) → n ≤ k → message_packet buf s e base k ≡ Withheld (refused_there 17 s base)
   unfolding message_packet message_answer
-  gives_no_other k past = rw (passes, count_is, le_leb n k past) (ap Withheld (start_recorded base s 17 0))
+  gives_no_other k past = rw (passes, count_is, le-leb n k past) (ap Withheld (start_recorded base s 17 0))
 
 -- ---- lists filled from the front
 

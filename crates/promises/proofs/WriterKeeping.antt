@@ -8,7 +8,7 @@ use native.Mathlib.Omega.{arith}
 use native.Mathlib.Decide.{dec_le}
 use lib.ListN.{length}
 use lib.Dec.{T, eqb, ltb, leb}
-use borrow.Author.Tests.{eqb-true, eqb-false, ltb-true, ltb-false, leb-true, le_leb, lt_leb}
+use borrow.Author.Tests.{eqb-true, eqb-false, ltb-true, ltb-false, leb-true, le-leb, lt-leb}
 use Rattle.units.specs.Units.{Bytes}
 use Rattle.units.specs.Choice.{pick}
 use Rattle.terms.specs.Refusals.{refused, needing, placed}
@@ -57,8 +57,8 @@ fitted_number (Counted k) n room right = go (ltb room n) refl
   where
     go : (t : Bool) → ltb room n ≡ t
         → (write_told (pick t (Unwritten (needing n (refused 16 0))) (Written n))).refusal.number ≡ pick (leb n room) 0 16
-    go true t = rw (lt_leb n room (ltb-true room n t))
-    go false t = rw (le_leb n room (ltb-false room n t))
+    go true t = rw (lt-leb n room (ltb-true room n t))
+    go false t = rw (le-leb n room (ltb-false room n t))
 fitted_number (Faulty r) n room right = (right r refl).0
 
 number_is : (c : Contents) (room : ℕ) → (write_told (write_packet c room)).refusal.number ≡ first (all_lines c room)
@@ -119,7 +119,7 @@ module _ (c : Contents) (room : ℕ) where
   passes₁₆ : WriterRule c room 16 → leb (contents_length c) room ≡ true
   passes₁₆ (roomy p h fits) =
       let is = length_one f.kind f.flags p (length c.body) h in
-      le_leb (contents_length c) room (omega arith)
+      le-leb (contents_length c) room (omega arith)
 
   lines_tested : Typed c → Tested (WriterRule c room) (all_lines c room)
   unfolding writer_lines value_lines

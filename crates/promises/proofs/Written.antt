@@ -5,7 +5,7 @@ use Prim.Native.Nat.{ℕ, ◌+◌, ◌-◌, ◌≤◌}
 use native.Mathlib.Omega.{arith}
 use lib.ListN.{length, drop, replicate, length-append, length-replicate}
 use lib.Seq.{take-take, take-length}
-use borrow.Author.Tests.{eq-eqb, le_leb}
+use borrow.Author.Tests.{eq-eqb, le-leb}
 use Rattle.units.specs.Units.{Bytes, part, num}
 use Rattle.frame.specs.Sums.{data_sum}
 use Rattle.units.proofs.Numbers.{bytes_append, length_bytes_of, zeros_replicate}
@@ -182,11 +182,11 @@ module _ (c : Contents) (t : Typed c) (r : Writable c) where
       let behind = secondary_of c ++ data_of c in
       let sum = data_sum (sum_code (flags_of c)) (filled_of c) in
       record {
-        enough = le_leb 24 (length (packet_bytes c)) (omega (arith, length_of_lem c, lengths.parts));
+        enough = le-leb 24 (length (packet_bytes c)) (omega (arith, length_of_lem c, lengths.parts));
         synced = head_back.sync;
         header_summed = rw (around_secondary c) (head_summed c.fields (contents_length c) (length c.body) behind);
         values = rw (channel_back, version_back, flags_back, kind_back, written_length, written_data_length) r.values;
-        whole = le_leb (packet_length (packet_bytes c)) (length (packet_bytes c)) (omega (arith, written_length, length_of_lem c));
+        whole = le-leb (packet_length (packet_bytes c)) (length (packet_bytes c)) (omega (arith, written_length, length_of_lem c));
         secondary_summed = rw secondary_back (secondary_summed_lem (flags_of c) (time_of c));
         secondary_ok = rw (time_back, secondary_back, flags_back, secondary_reserved (flags_of c) (time_of c)) r.time;
         data_summed = rw (filled_back, data_sum_back, flags_back) (eq-eqb sum sum refl);

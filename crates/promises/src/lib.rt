@@ -2,6 +2,8 @@
 // Words.antt, on the definitions that the contracts of the public calls cite. The functions here tie them to the code: each makes one public
 // call, and promises of it what specs/Calls.antt says, and of its arguments what the theorems ask for: `Bytes` of what is lent for reading,
 // `Typed` of contents. So every theorem applies to every run.
+#![tactic(auto)]
+
 ghost use Rattle.std.specs.Prelude.{◌^◌, ◌<◌};
 ghost use Rattle.units.specs.Units.{Bytes};
 ghost use Rattle.frame.specs.Contents.{contents};

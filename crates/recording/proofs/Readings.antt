@@ -7,7 +7,7 @@ use native.Mathlib.Omega.{arith}
 use native.Mathlib.Nat.{zero-add, add-zero}
 use lib.ListN.{length}
 use lib.Dec.{leb}
-use borrow.Author.Tests.{le_leb, lt_leb}
+use borrow.Author.Tests.{le-leb, lt-leb}
 use Rattle.units.specs.Choice.{pick}
 use Rattle.terms.specs.Refusals.{refused, no_refusal, recorded}
 use Rattle.terms.specs.declared.Refusal.{Refusal}
@@ -31,8 +31,8 @@ onward_same (Refused r) at base f g h = refl
 pub turns_enough : (m n : ℕ) (buf : List ℕ) (at end base : ℕ) → end - at ≤ m → end - at ≤ n → read_from m buf at end base ≡ read_from n buf at end base
 unfolding read_from
 turns_enough zero zero buf at end base hm hn = refl
-turns_enough zero (suc n) buf at end base hm hn = rw (le_leb end at (omega arith))
-turns_enough (suc m) zero buf at end base hm hn = rw (le_leb end at (omega arith))
+turns_enough zero (suc n) buf at end base hm hn = rw (le-leb end at (omega arith))
+turns_enough (suc m) zero buf at end base hm hn = rw (le-leb end at (omega arith))
 turns_enough (suc m) (suc n) buf at end base hm hn = go (λ next. turns_enough m n buf next end) (leb end at) refl
   where
     go : ((next base : ℕ) → end - next ≤ m → end - next ≤ n → read_from m buf next end base ≡ read_from n buf next end base)
@@ -58,18 +58,18 @@ module _ (buf : List ℕ) (at end base : ℕ) where
 
   pub from_end : end ≤ at → from buf at end base ≡ stopped at base no_refusal
   unfolding read_from
-  from_end h = from_step ∙ rw (le_leb end at h)
+  from_end h = from_step ∙ rw (le-leb end at h)
 
   pub from_on : (p : Packet) → at < end → read_packet buf at end base ≡ Accepted p → from buf at end base ≡ ahead p (from buf (at + p.length) end (base + p.length))
   unfolding read_from
   from_on p h q =
       let k = accepted_fits buf at end base p q in
-      from_step ∙ rw (lt_leb end at h, q)
+      from_step ∙ rw (lt-leb end at h, q)
       (ap (λ (r : Reading). ahead p r) (turns_enough (end - at) (end - (at + p.length)) buf (at + p.length) end (base + p.length) (omega arith) (omega arith)))
 
   pub from_stops : (r : Refusal) → at < end → read_packet buf at end base ≡ Refused r → from buf at end base ≡ stopped at base r
   unfolding read_from
-  from_stops r h q = from_step ∙ rw (lt_leb end at h, q)
+  from_stops r h q = from_step ∙ rw (lt-leb end at h, q)
 
 -- ---- from the start
 

@@ -1,4 +1,6 @@
 // A whole recording: packets one behind the other in a window.
+#![tactic(auto)]
+
 ghost use Rattle.std.specs.Prelude.{◌≡◌};
 ghost use Rattle.recording.specs.Reading.{read_recording};
 
@@ -8,7 +10,7 @@ use terms::{Refusal, no_refusal, recorded};
 // What the reading of a recording gives, never zeroed: the number of packets accepted, the place reached (the first byte of the
 // refused packet, or the end), in the buffer and in the recording, and the refusal as the one-packet reader gave it, with its own
 // places; all 0 at the exact end.
-#[derive(Drop)]
+#[derive(Clone, Copy)]
 pub struct Recording {
     pub accepted: usize,
     pub reached: usize,

@@ -3,7 +3,7 @@ use mathlib.Core.Path.{◌≡◌, refl, ap, ◌∙◌}
 use mathlib.Core.List.{List}
 use Prim.Native.Nat.{ℕ, ◌*◌, ◌≤◌, ◌<◌}
 use lib.ListN.{take, set}
-use borrow.Author.Tests.{lt-ltb, le-ltb, le_leb, lt_leb}
+use borrow.Author.Tests.{lt-ltb, le-ltb, le-leb, lt-leb}
 use Rattle.units.specs.Units.{splice}
 use Rattle.terms.specs.declared.Refusal.{Refusal}
 use Rattle.frame.specs.Header.{packet_length}
@@ -23,11 +23,11 @@ module _ (t : List Entry) (recording place start n : ℕ) where
   module _ (short : n ≤ 1024) (k : ℕ) (is : k ≡ home_of recording place t) where
     pub put_full : (r : Refusal) → 64 ≤ k → r ≡ barred 19 start place → Unadded r ≡ put_answer t recording place start n
     unfolding put_answer
-    put_full r h e = rw (le-ltb 1024 n short, ← is) (rw (le_leb 64 k h, e))
+    put_full r h e = rw (le-ltb 1024 n short, ← is) (rw (le-leb 64 k h, e))
 
     pub put_goes : k < 64 → Added k ≡ put_answer t recording place start n
     unfolding put_answer
-    put_goes h = rw (le-ltb 1024 n short, ← is) (rw (lt_leb 64 k h))
+    put_goes h = rw (le-ltb 1024 n short, ← is) (rw (lt-leb 64 k h))
 
 -- ---- what a refusal leaves, and what an entry does
 

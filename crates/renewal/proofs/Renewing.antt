@@ -5,7 +5,7 @@ use mathlib.Core.Bool.{Bool, true, false}
 use Prim.Native.Nat.{ℕ, ◌-◌, ◌*◌, ◌≤◌, ◌<◌}
 use native.Mathlib.Omega.{arith}
 use lib.ListN.{length, take}
-use borrow.Author.Tests.{lt-ltb, le-ltb, le_leb, lt_leb}
+use borrow.Author.Tests.{lt-ltb, le-ltb, le-leb, lt-leb}
 use Rattle.units.specs.Units.{part, same}
 use Rattle.units.proofs.Parts.{length_part}
 use Rattle.units.proofs.Sames.{same_long}
@@ -25,17 +25,17 @@ use Rattle.renewal.proofs.Passing.{Taken}
 module _ (store : List ℕ) (k n : ℕ) (bytes : List ℕ) where
   pub held_forged : 1024 < n → false ≡ holds store k n bytes
   unfolding holds
-  held_forged h = rw (lt_leb n 1024 h)
+  held_forged h = rw (lt-leb n 1024 h)
 
   pub held_other : 65536 ≤ length store → k < 64 → n ≤ 1024 → (n ≡ length bytes → ⊥) → false ≡ holds store k n bytes
   unfolding holds
   held_other room slot short other =
       let long : length (part store (k * 1024) n) ≡ n = length_part store (k * 1024) n (omega arith) in
-      rw (le_leb n 1024 short) (sym (same_long (part store (k * 1024) n) bytes (λ q. other (sym long ∙ q))))
+      rw (le-leb n 1024 short) (sym (same_long (part store (k * 1024) n) bytes (λ q. other (sym long ∙ q))))
 
   pub held_by : n ≤ 1024 → (r : Bool) → r ≡ same (part store (k * 1024) n) bytes → r ≡ holds store k n bytes
   unfolding holds
-  held_by short r is = is ∙ rw (le_leb n 1024 short)
+  held_by short r is = is ∙ rw (le-leb n 1024 short)
 
 -- ---- the judgement
 
@@ -71,16 +71,16 @@ module _ (t : List Entry) (store : List ℕ) (recording place : ℕ) (buf : List
   module _ (room : 65536 ≤ length store) (k : ℕ) (slot : k ≡ slot_of recording place t) where
     pub renew_none : (r : Refusal) → 64 ≤ k → r ≡ barred 20 s place → Unrenewed r ≡ told
     unfolding renew_entry
-    renew_none r h is = rw (le-ltb (length store) 65536 room, ← slot) (rw (le_leb 64 k h, is))
+    renew_none r h is = rw (le-ltb (length store) 65536 room, ← slot) (rw (le-leb 64 k h, is))
 
     pub renew_outside : (r : Refusal) → k < 64 → inside buf s e place ≡ false → r ≡ barred 1 s place → Unrenewed r ≡ told
     unfolding renew_entry
-    renew_outside r h i is = rw (le-ltb (length store) 65536 room, ← slot) (rw (lt_leb 64 k h, i, is))
+    renew_outside r h i is = rw (le-ltb (length store) 65536 room, ← slot) (rw (lt-leb 64 k h, i, is))
 
     pub renew_judged : (x : EntryRenewal) → k < 64 → inside buf s e place ≡ true
         → x ≡ judged (read_packet buf s e place) store k (length_of (entry t k)) (window buf s e) → x ≡ told
     unfolding renew_entry
-    renew_judged x h i is = rw (le-ltb (length store) 65536 room, ← slot) (rw (lt_leb 64 k h, i) is)
+    renew_judged x h i is = rw (le-ltb (length store) 65536 room, ← slot) (rw (lt-leb 64 k h, i) is)
 
 pub table_kept : (r : Refusal) (t : List Entry) (k : ℕ) → t ≡ table_renewed (Unrenewed r) t k
 unfolding table_renewed

@@ -1,5 +1,7 @@
 // The renewal table (document 02 §13): up to 64 entries, lent and changed in place as rows of words, and the packets' bytes in a lent
 // store of 64 slots of 1,024 bytes. An entry's name is its recording number and place, and the place is the base of the window read.
+#![tactic(auto)]
+
 ghost use Rattle.std.specs.Prelude.{◌≡◌, length, take, ◌≤◌, ◌<◌};
 ghost use Rattle.packet.specs.Read.{window, packet_in, read_packet};
 ghost use Rattle.renewal.specs.Table.{entry_of, empty_table, next_live, slot_of};
@@ -19,14 +21,14 @@ use slots::{LENGTH, drop_entry, home_of, put_entry, seek, slot_of};
 pub type Table = [[u64; 7]; 64];
 
 // The slot of the entry added, or the refusal.
-#[derive(Drop)]
+#[derive(Clone, Copy)]
 pub enum EntryAdd {
     Added(usize),
     Unadded(Refusal),
 }
 
 // The entry lives on; or it is dropped, with the reader's refusal or none; or the refusal, and nothing is changed.
-#[derive(Drop)]
+#[derive(Clone, Copy)]
 pub enum EntryRenewal {
     Lives,
     Dropped(Refusal),
@@ -34,7 +36,7 @@ pub enum EntryRenewal {
 }
 
 // What a slot is looked for by; inside this crate only.
-#[derive(Drop)]
+#[derive(Clone, Copy)]
 pub enum Wanted {
     Named(u64, u64),
     Free,

@@ -8,7 +8,7 @@ use native.Mathlib.Omega.{arith}
 use lib.ListN.{length, set, length-set}
 use lib.Seq.{get_or-set_same, get_or-set_other}
 use lib.Dec.{ltb, leb}
-use borrow.Author.Tests.{ltb-true, ltb-false, leb-true, leb-false, le_leb}
+use borrow.Author.Tests.{ltb-true, ltb-false, leb-true, leb-false, le-leb}
 use Rattle.units.specs.Choice.{pick}
 use Rattle.units.specs.Units.{part, same}
 use Rattle.units.proofs.Choices.{and_true}
@@ -66,7 +66,7 @@ module _ (t : Rows) (store : List ℕ) (k : ℕ) (room : 65536 ≤ length store)
       let long : word t k 3 ≡ p.length = e.long ∙ ap (λ (x : Packet). x.length) one in
       let bytes : part store (k * 1024) p.length ≡ part buf start p.length = rw one at e.bytes in
       let short : word t k 3 ≤ 1024 = omega (arith, e.long, e.short) in
-      rw (le_leb (word t k 3) 1024 short, long, bytes, own_bytes_lem buf start end place p read) (same_refl (part buf start p.length))
+      rw (le-leb (word t k 3) 1024 short, long, bytes, own_bytes_lem buf start end place p read) (same_refl (part buf start p.length))
 
 -- ---- the six ways that it goes
 

@@ -1,6 +1,8 @@
 // 02 §13's promises are theorems: specs/Renewal.antt, on the definitions that the contracts of the renewal table's calls cite. The functions
 // here tie them to the code: each makes one public call, and promises of it what specs/Calls.antt says, and of its table what the theorems
 // ask for: 64 rows, by `slots`. So every theorem applies to every run.
+#![tactic(auto)]
+
 ghost use Rattle.std.specs.Prelude.{◌≡◌, length};
 ghost use Rattle.renewal_promises.specs.Calls.{Empty, Next, Add, Renew};
 

@@ -1,11 +1,13 @@
 // What the crates above answer in and judge times by: a refusal, and a time rule.
+#![tactic(auto)]
+
 ghost use Rattle.std.specs.Prelude.{◌≡◌, ◌+◌, ◌-◌, ◌^◌, ◌≤◌, ◌<◌};
 ghost use Rattle.terms.specs.Refusals.{refusal, no_refusal, refused, fault, needing, placed, moved, recorded};
 
 pub mod time;
 
 // How the times of a body's messages, or a secondary header's time, are formed.
-#[derive(Drop)]
+#[derive(Clone, Copy)]
 pub enum TimeRule {
     Counter,
     Chapter4,
@@ -15,7 +17,7 @@ pub enum TimeRule {
 
 // A refusal: document 01's number, the reason (15; otherwise 0), the place in the buffer, the room needed (16; otherwise 0), and the
 // place in the recording. The two small numbers stand together, so that there is less to copy.
-#[derive(Drop)]
+#[derive(Clone, Copy)]
 pub struct Refusal {
     pub number: u8,
     pub reason: u8,

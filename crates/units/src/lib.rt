@@ -1,4 +1,6 @@
 // Little-endian numbers in byte slices, copying and clearing, and sums of units.
+#![tactic(auto)]
+
 ghost use Rattle.std.specs.Prelude.{◌≡◌, ◌+◌, ◌*◌, ◌<◌, ◌≤◌, length, replicate};
 ghost use Rattle.units.specs.Units.{field, bytes_of, splice, checksum, zeros, same};
 

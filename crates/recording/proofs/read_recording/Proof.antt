@@ -1,4 +1,4 @@
-use borrow.Author.Tests.{not-true, not_false}
+use borrow.Author.Tests.{not-true, not-false}
 use mathlib.Core.Path.{sym, ◌∙◌}
 use Prim.Native.Nat.{◌-◌}
 use native.Mathlib.Omega.{arith}
@@ -18,7 +18,7 @@ returns c =
     recording_outside _ _ _ _ _ (sym c.before.before.inside.ensures ∙ not-true _ c.before.if1.true) c.outside.ensures
 
 loop-holds : tie.Need-loop-init invariant-loop decreases-loop
-loop-holds c = tally_first _ _ _ _ (sym c.before.inside.ensures ∙ not_false _ c.if1.false)
+loop-holds c = tally_first _ _ _ _ (sym c.before.inside.ensures ∙ not-false _ c.if1.false)
 
 part-pass-bytes-end : tie.Need-slice-bounds-pass-bytes-end invariant-loop decreases-loop
 part-pass-bytes-end c = c.before.loop.invariant.inside.within

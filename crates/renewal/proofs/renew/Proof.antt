@@ -1,6 +1,6 @@
 use mathlib.Core.Path.{sym, ap, ◌∙◌}
 use native.Mathlib.Omega.{arith}
-use borrow.Author.Tests.{not-true, not_false}
+use borrow.Author.Tests.{not-true, not-false}
 use borrow.Author.Rules.{rules}
 use Rattle.renewal.specs.Renewal.{table_renewed}
 use Rattle.renewal.proofs.Renewing.{renew_small, renew_none, renew_outside, renew_judged, table_kept}
@@ -31,7 +31,7 @@ returns-4 c =
     let tested = else.before in
     let slot = tested.before.before in (
       renew_judged _ _ _ _ _ _ _ slot.before.before.if1.false _ slot.slot_of.ensures _ (omega arith)
-          (sym tested.inside.ensures ∙ not_false _ else.if3.false) judged.judge.ensures,
+          (sym tested.inside.ensures ∙ not-false _ else.if3.false) judged.judge.ensures,
       c.settle.ensures ∙ ap (table_renewed _ _) slot.slot_of.ensures,
     )
 

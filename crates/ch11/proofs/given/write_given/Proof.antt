@@ -1,6 +1,6 @@
 use mathlib.Core.Path.{refl, sym, ◌∙◌}
 use borrow.Author.Rules.{rules}
-use borrow.Author.Tests.{not_false}
+use borrow.Author.Tests.{not-false}
 use Rattle.packet.proofs.Writes.{out_kept}
 use Rattle.ch11.proofs.Giving.{unfit, fit_as}
 use Rattle.ch11.proofs.given.write_given.Statement.{statement}
@@ -12,7 +12,7 @@ returns c =
     (unfit _ _ _ _ _ fit.ensures c.before.if1.true c.refuse.ensures, out_kept _ _ _ _ refl)
 
 fields-of-requires : tie.Need-fields-of-requires
-fields-of-requires c κs = sym c.before.fields_fit.ensures ∙ not_false _ c.if1.false
+fields-of-requires c κs = sym c.before.fields_fit.ensures ∙ not-false _ c.if1.false
 
 returns-2 : tie.Need-returns-2
 returns-2 c =

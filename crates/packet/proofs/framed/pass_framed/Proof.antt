@@ -1,6 +1,6 @@
 use mathlib.Core.Path.{sym, ap, ◌∙◌}
 use native.Mathlib.Omega.{arith}
-use borrow.Author.Tests.{not-true, not_false}
+use borrow.Author.Tests.{not-true, not-false}
 use borrow.Author.Rules.{rules}
 use Rattle.body.specs.declared.Checked.TheVariants.{Faulty}
 use Rattle.body.proofs.Counts.{walked_counted, walked_faulty}
@@ -14,7 +14,7 @@ returns c = pass_carried _ _ _ c.read32.ensures (sym c.before.before.opens-kind.
 walk-body-requires : tie.Need-walk-body-requires
 walk-body-requires c κs =
     let else1 = c.before.before.before.before in
-    sym else1.before.opens-kind.ensures ∙ not_false _ else1.if1.false
+    sym else1.before.opens-kind.ensures ∙ not-false _ else1.if1.false
 
 -- what the walk says is what the body's check says
 reach : tie.Need-moved-requires

@@ -1,6 +1,6 @@
 use mathlib.Core.Path.{sym, ◌∙◌}
 use native.Mathlib.Omega.{arith}
-use borrow.Author.Tests.{not-true, not_false}
+use borrow.Author.Tests.{not-true, not-false}
 use borrow.Author.Rules.{rules}
 use Rattle.packet.proofs.Passes.{inside_says, window_ends, pass_in, window_reach, pass_outside, pass_inside}
 use Rattle.renewal.proofs.Passing.{passed_of, barred_of}
@@ -12,38 +12,38 @@ returns c =
     barred_of _ _ _ _ _ _ (pass_outside _ _ _ _ (sym c.before.before.inside.ensures ∙ not-true _ c.before.if1.true)) c.outside.ensures
 
 sub-pass-bytes : tie.Need-overflow-sub-pass-bytes
-sub-pass-bytes c = (inside_says _ _ _ _ (sym c.before.inside.ensures ∙ not_false _ c.if1.false)).ordered
+sub-pass-bytes c = (inside_says _ _ _ _ (sym c.before.inside.ensures ∙ not-false _ c.if1.false)).ordered
 
 part-pass-bytes-start : tie.Need-slice-bounds-pass-bytes-start
-part-pass-bytes-start c = (inside_says _ _ _ _ (sym c.before.inside.ensures ∙ not_false _ c.if1.false)).ordered
+part-pass-bytes-start c = (inside_says _ _ _ _ (sym c.before.inside.ensures ∙ not-false _ c.if1.false)).ordered
 
 part-pass-bytes-end : tie.Need-slice-bounds-pass-bytes-end
-part-pass-bytes-end c = (inside_says _ _ _ _ (sym c.before.inside.ensures ∙ not_false _ c.if1.false)).within
+part-pass-bytes-end c = (inside_says _ _ _ _ (sym c.before.inside.ensures ∙ not-false _ c.if1.false)).within
 
 pass-bytes-requires : tie.Need-pass-bytes-requires
 pass-bytes-requires c κs =
     let else = c.before in
-    let i = inside_says _ _ _ _ (sym else.before.inside.ensures ∙ not_false _ else.if1.false) in
+    let i = inside_says _ _ _ _ (sym else.before.inside.ensures ∙ not-false _ else.if1.false) in
     omega (arith, window_ends _ _ _ _ i, else.before.before.before.ranges)
 
 recorded-requires : tie.Need-recorded-requires
 recorded-requires c κs =
     let tested = c.before.before.before in
     let else = tested.before.before in
-    let i = inside_says _ _ _ _ (sym else.before.inside.ensures ∙ not_false _ else.if1.false) in
+    let i = inside_says _ _ _ _ (sym else.before.inside.ensures ∙ not-false _ else.if1.false) in
     window_reach _ _ _ _ _ i (pass_in _ _ _ (sym tested.pass-bytes.ensures ∙ c.before.refusal.given.1))
 
 returns-2 : tie.Need-returns-2
 returns-2 c =
     let tested = c.before.before.before in
     let else = tested.before.before in
-    passed_of _ _ _ _ _ (sym else.before.inside.ensures ∙ not_false _ else.if1.false) (sym tested.pass-bytes.ensures ∙ c.before.length.given.1)
+    passed_of _ _ _ _ _ (sym else.before.inside.ensures ∙ not-false _ else.if1.false) (sym tested.pass-bytes.ensures ∙ c.before.length.given.1)
 
 returns-3 : tie.Need-returns-3
 returns-3 c =
     let tested = c.before.before.before.before in
     let else = tested.before.before in
-    let inside = sym else.before.inside.ensures ∙ not_false _ else.if1.false in
+    let inside = sym else.before.inside.ensures ∙ not-false _ else.if1.false in
     barred_of _ _ _ _ _ _ (pass_inside _ _ _ _ inside ∙ sym tested.pass-bytes.ensures ∙ c.before.before.refusal.given.1) c.recorded.ensures
 
 pub pass_window_spec : {M : Type 1} → statement M

@@ -1,0 +1,23 @@
+use Rattle.body.proofs.Counts.{has_messages, ReadingIn, in_first, in_fits, in_ahead, in_message}
+use Rattle.body.proofs.Reading.{fill_next}
+use Rattle.body.specs.Answers.{check_body, message_in, tab, filled, starts_of, lengths_of}
+use Rattle.terms.specs.declared.TimeRule.{TimeRule}
+use Rattle.body.specs.declared.Checked.TheVariants.{Counted}
+use Rattle.body.specs.declared.Message.{Message}
+use lib.ListN.{length}
+use Prim.Native.Nat.{◌≤◌, ◌-◌, ◌+◌}
+use native.Mathlib.Omega.{arith}
+use mathlib.Core.Path.{◌≡◌, refl, ap}
+use borrow.Author.Rules.{rules}
+use Rattle.body.proofs.list.fill_lists.Given as goal
+
+abbrev pub invariant-loop-k : goal.invariant-loop-k
+invariant-loop-k l = (l.k ≤ l.n)
+    × ReadingIn l.kind l.body l.n l.k l.at
+    × ((rule : TimeRule) → check_body l.kind rule l.body ≡ Counted l.n → l.starts ≡ filled l.k (starts_of l.base (message_in l.kind rule l.body)) l.initial.starts)
+    × ((rule : TimeRule) → check_body l.kind rule l.body ≡ Counted l.n → l.lengths ≡ filled l.k (lengths_of (message_in l.kind rule l.body)) l.initial.lengths)
+    × (length l.starts ≡ length l.initial.starts)
+    × (length l.lengths ≡ length l.initial.lengths)
+
+abbrev pub decreases-loop-k : goal.decreases-loop-k
+decreases-loop-k l = l.n - l.k

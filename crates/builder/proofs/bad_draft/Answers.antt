@@ -1,0 +1,5 @@
+use Rattle.std.proofs.Common.{rules}
+use Rattle.builder.proofs.bad_draft.Goals as goal
+
+pub returns : goal.returns
+returns c = cc

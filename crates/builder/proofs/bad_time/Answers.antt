@@ -1,0 +1,5 @@
+use Rattle.std.proofs.Common.{rules}
+use Rattle.builder.proofs.bad_time.Goals as goal
+
+pub returns : goal.returns
+returns c = cc

@@ -1,0 +1,9 @@
+use Rattle.std.proofs.Common.{◌-◌, arith}
+use Rattle.units.proofs.Sums.{Lanes, lanes_first, lanes_next, lanes_last}
+use Rattle.units.proofs.lanes32.Given as goal
+
+abbrev pub invariant-loop-i : goal.invariant-loop-i
+invariant-loop-i l = Lanes 4 l.s l.rest l.lane l.n l.i l.acc
+
+abbrev pub decreases-loop-i : goal.decreases-loop-i
+decreases-loop-i l = l.i-end - l.i

@@ -1,0 +1,10 @@
+use Rattle.std.proofs.Common.{◌-◌, get_or, sym, one-mul, arith}
+use Rattle.units.proofs.Parts.{field_one}
+use Rattle.units.proofs.Sums.{Summing, summing_first, summing_next, summing_last}
+use Rattle.units.proofs.sum8.Given as goal
+
+abbrev pub invariant-loop-k : goal.invariant-loop-k
+invariant-loop-k l = Summing 1 l.s l.n l.k l.acc
+
+abbrev pub decreases-loop-k : goal.decreases-loop-k
+decreases-loop-k l = l.n - l.k
