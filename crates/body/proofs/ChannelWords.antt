@@ -151,15 +151,25 @@ module _ (kind : ℕ) (rule : TimeRule) (bs : List ℕ) where
       by (inl k) h = message_says kind rule (field bs 0 4) k sh (rw k at h)
       by (inr k) h = uart_says kind rule (field bs 0 4) sh k (rw k at h)
 
-  opened_by : OpenedType kind → 4 ≤ length bs → open_body kind rule bs ≡ shape_by kind rule (field bs 0 4)
-  unfolding open_body
-  opened_by o long = rw ((opens_exactly kind).1 o, le-ltb (length bs) 4 long)
+  -- a right channel word is one of an opened type, and says the shape that its type's reader makes of it
+  opened_type : {word : ℕ} {form : Form} {asked : Asked} → ChannelWord kind word form asked → OpenedType kind
+  opened_type (many k small b some) = inl k
+  opened_type (single k small b one) = inl k
+  opened_type (segment k small b more) = inl k
+  opened_type (timed k bits high) = inr k
+  opened_type (untimed k bits low) = inr k
+
+  says_shape : (word : ℕ) (form : Form) (asked : Asked) → ChannelWord kind word form asked → shape_by kind rule word ≡ Shaped (shape_of form asked rule)
+  says_shape word form asked (many k small b some) = rw k (message_many rule word small b some)
+  says_shape word form asked (single k small b one) = rw k (message_single rule word small b one)
+  says_shape word form asked (segment k small b more) = rw k (message_segment rule word _ refl small b more)
+  says_shape word form asked (timed k bits high) = rw k (uart_timed rule word bits high)
+  says_shape word form asked (untimed k bits low) = rw k (uart_untimed rule word bits low)
 
   -- and a right one of 4 bytes is what it opens to
   pub word_made : (form : Form) (asked : Asked) → 4 ≤ length bs → ChannelWord kind (field bs 0 4) form asked
       → open_body kind rule bs ≡ Shaped (shape_of form asked rule)
-  word_made form asked long (many k small b some) = opened_by (inl k) long ∙ rw k (message_many rule (field bs 0 4) small b some)
-  word_made form asked long (single k small b one) = opened_by (inl k) long ∙ rw k (message_single rule (field bs 0 4) small b one)
-  word_made form asked long (segment k small b more) = opened_by (inl k) long ∙ rw k (message_segment rule (field bs 0 4) _ refl small b more)
-  word_made form asked long (timed k bits high) = opened_by (inr k) long ∙ rw k (uart_timed rule (field bs 0 4) bits high)
-  word_made form asked long (untimed k bits low) = opened_by (inr k) long ∙ rw k (uart_untimed rule (field bs 0 4) bits low)
+  unfolding open_body
+  word_made form asked long word =
+      let o : open_body kind rule bs ≡ shape_by kind rule (field bs 0 4) = rw ((opens_exactly kind).1 (opened_type word), le-ltb (length bs) 4 long) in
+      o ∙ says_shape (field bs 0 4) form asked word

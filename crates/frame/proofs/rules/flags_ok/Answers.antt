@@ -1,0 +1,6 @@
+use borrow.Author.Rules.{rules}
+use Rattle.frame.proofs.Types.{all_flags}
+use Rattle.frame.proofs.rules.flags_ok.Goals as goal
+
+pub returns : goal.returns
+returns c = all_flags _ c.ranges.flags.fits
