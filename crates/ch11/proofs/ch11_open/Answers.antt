@@ -1,0 +1,6 @@
+use mathlib.Core.Path.{refl}
+use borrow.Author.Rules.{rules}
+use Rattle.ch11.proofs.ch11_open.Goals as goal
+
+pub returns : goal.returns
+returns c = ((c.open_given.ensures.value, refl), c.open_given.ensures.buf_after)
