@@ -2,8 +2,7 @@
 // each accepted packet, then the number of packets, the bytes that they cover, and the refusal that ended the reading, or 0.
 #![tactic(auto)]
 
-ghost use Rattle.std.specs.Prelude.{◌≡◌, ◌≤◌, length};
-ghost use Rattle.io.specs.Counts.{IsPrefixLen};
+ghost use Rattle.std.specs.Prelude.{◌≡◌, ◌≤◌, length, take};
 ghost use Rattle.packet.specs.Read.{window, read_packet};
 ghost use Rattle.packet.specs.Messages.{message_count};
 ghost use Rattle.packet.specs.declared.Packet.{Packet};
@@ -12,40 +11,42 @@ ghost use Rattle.packet.specs.declared.PacketRead.TheVariants.{Accepted};
 use frame::Fields;
 use packet::{Packet, PacketList, PacketRead, list_messages, read_packet};
 use recording::{Recording, read_recording};
+use std::io;
+use std::io::Read;
 
 // Writes a line: a key name with its `=`, and a number. False where that fails, as everything below that writes lines.
-fn line(key: &[u8], value: u64) -> bool {
-    io::write_all(1, key) && io::print_decimal(1, value) && io::write_all(1, b"\n")
+fn line(rt: &impl Print, key: &str, value: u64) -> bool {
+    println!(rt; "{key}{value}").is_ok()
 }
 
 // The lines that the packet's fields give.
-fn show_fields(fields: Fields) -> bool {
-    line(b"channel=", fields.channel as u64)
-        && line(b"type=", fields.kind as u64)
-        && line(b"version=", fields.version as u64)
-        && line(b"sequence=", fields.sequence as u64)
-        && line(b"flags=", fields.flags as u64)
-        && line(b"rtc=", fields.rtc)
-        && line(b"time=", fields.time)
+fn show_fields(rt: &impl Print, fields: Fields) -> bool {
+    line(rt, "channel=", fields.channel as u64)
+        && line(rt, "type=", fields.kind as u64)
+        && line(rt, "version=", fields.version as u64)
+        && line(rt, "sequence=", fields.sequence as u64)
+        && line(rt, "flags=", fields.flags as u64)
+        && line(rt, "rtc=", fields.rtc)
+        && line(rt, "time=", fields.time)
 }
 
 // The lines of a packet.
-fn show_packet(number: usize, packet: Packet, messages: usize) -> bool {
-    line(b"packet=", number as u64)
-        && line(b"at=", packet.recording_place)
-        && line(b"length=", packet.length as u64)
-        && show_fields(packet.fields)
-        && line(b"body=", packet.body.length as u64)
-        && line(b"filler=", packet.filler.length as u64)
-        && line(b"sum=", packet.data_sum as u64)
-        && line(b"messages=", messages as u64)
+fn show_packet(rt: &impl Print, number: usize, packet: Packet, messages: usize) -> bool {
+    line(rt, "packet=", number as u64)
+        && line(rt, "at=", packet.recording_place)
+        && line(rt, "length=", packet.length as u64)
+        && show_fields(rt, packet.fields)
+        && line(rt, "body=", packet.body.length as u64)
+        && line(rt, "filler=", packet.filler.length as u64)
+        && line(rt, "sum=", packet.data_sum as u64)
+        && line(rt, "messages=", messages as u64)
 }
 
 // The three last lines.
-fn show_end(recording: Recording) -> bool {
-    line(b"packets=", recording.accepted as u64)
-        && line(b"bytes=", recording.reached as u64)
-        && line(b"answer=", recording.refusal.number as u64)
+fn show_end(rt: &impl Print, recording: Recording) -> bool {
+    line(rt, "packets=", recording.accepted as u64)
+        && line(rt, "bytes=", recording.reached as u64)
+        && line(rt, "answer=", recording.refusal.number as u64)
 }
 
 // How many messages the packet at `at` has, 0 if its type isn't opened. Lent no entries, the lister says 0 or asks for the room of
@@ -62,14 +63,14 @@ fn message_count(buf: &[u8], at: usize, end: usize) -> usize
 }
 
 // Shows so many packets, each at the end of the one before.
-fn show_packets(buf: &[u8], end: usize, count: usize) -> bool {
+fn show_packets(rt: &impl Print, buf: &[u8], end: usize, count: usize) -> bool {
     let mut at: usize = 0;
     let mut number: usize = 0;
     while number < count {
         let PacketRead::Accepted(packet) = read_packet(buf, at, end, at as u64) else {
             return false;
         };
-        if !show_packet(number, packet, message_count(buf, at, end)) {
+        if !show_packet(rt, number, packet, message_count(buf, at, end)) {
             return false;
         }
         at = at + packet.length as usize;
@@ -79,10 +80,10 @@ fn show_packets(buf: &[u8], end: usize, count: usize) -> bool {
 }
 
 // Lists a recording. The buffer begins with its first byte: a place in the one is a place in the other, and so a packet's base.
-fn list(buf: &[u8]) -> bool {
+fn list(rt: &impl Print, buf: &[u8]) -> bool {
     let end = buf.len();
     let recording = read_recording(buf, 0, end, 0);
-    show_packets(buf, end, recording.accepted) && show_end(recording)
+    show_packets(rt, buf, end, recording.accepted) && show_end(rt, recording)
 }
 
 // How much standard input gave, and whether a read of it failed.
@@ -93,23 +94,29 @@ struct Input {
 }
 
 // One read of standard input.
-fn read_some(room: &mut [u8]) -> Input
+fn read_some(source: &mut impl Read, room: &mut [u8]) -> Input
     ensures { result.filled ≤ length room.new }
 {
-    let got = libc::read(0, room);
-    Input {
-        filled: io::count(got, room),
-        failed: got < 0,
+    match source.read(room) {
+        Ok(filled) => Input {
+            filled,
+            failed: false,
+        },
+        Err(_) => Input {
+            filled: 0,
+            failed: true,
+        },
     }
 }
 
 // Reads standard input to its end, or until the room is full.
-fn read_input(room: &mut [u8]) -> Input
-    ensures { IsPrefixLen result.filled room.new }
+fn read_input(source: &mut impl Read, room: &mut [u8]) -> Input
+    ensures within { result.filled ≤ length room.new }
+    ensures taken { result.filled ≡ length (take result.filled room.new) }
 {
     let mut filled: usize = 0;
     while filled < room.len() {
-        let more = read_some(&mut room[filled..]);
+        let more = read_some(source, &mut room[filled..]);
         if more.filled == 0 {
             return Input {
                 filled,
@@ -129,20 +136,21 @@ fn blank_room() -> [u8; 65537] {
     [0; 65537]
 }
 
-fn main() {
+fn main(rt: HostRuntime) -> io::Result<()> {
     let mut room = blank_room();
-    let input = read_input(&mut room);
+    let mut source = rt.stdin();
+    let input = read_input(&mut source, &mut room);
     if input.failed {
-        io::write_all(2, b"listing: standard input can't be read\n");
-        return;
+        return eprintln!(rt; "listing: standard input can't be read");
     }
     let filled = input.filled;
     let shown = if 65536 < filled {
-        line(b"answer=", 1)
+        line(&rt, "answer=", 1)
     } else {
-        list(&room[..filled])
+        list(&rt, &room[..filled])
     };
     if !shown {
-        io::write_all(2, b"listing: standard output can't be written\n");
+        return eprintln!(rt; "listing: standard output can't be written");
     }
+    Ok(())
 }
