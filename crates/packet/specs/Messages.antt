@@ -1,5 +1,5 @@
 -- The lister, and one message by its number (document 01, "Lister"): after the reader's tests.
-use Rattle.std.specs.Prelude.{List, ℕ, ◌+◌, min, length, take, leb, ltb}
+use Rattle.std.specs.Prelude.{List, ℕ, ◌+◌, min, take, leb, ltb}
 use Rattle.units.specs.Choice.{pick}
 use Rattle.terms.specs.Refusals.{refused, no_refusal, needing, recorded}
 use Rattle.body.specs.Answers.{no_message, message_in, filled}

@@ -1,5 +1,5 @@
 -- The starred cases of document 01, "Both sides of the line", over a single list; and below them what the examples are about (proofs/Examples.antt).
-use Rattle.std.specs.Prelude.{◌≡◌, List, [], ◌∷◌, ◌++◌, ℕ, ◌+◌, ◌*◌, ◌^◌, length, set, replicate}
+use Rattle.std.specs.Prelude.{◌≡◌, List, [], ◌∷◌, ◌++◌, ℕ, ◌+◌, ◌*◌, ◌^◌, set, replicate}
 use Rattle.units.specs.Units.{splice, field, bytes_of}
 use Rattle.terms.specs.Refusals.{refused, no_refusal}
 use Rattle.body.specs.Blocks.{block_bytes}

@@ -8,7 +8,6 @@ use native.Mathlib.Omega.{arith}
 use lib.ListN.{length, get_or, replicate, length-set, get_or-replicate}
 use lib.Dec.{ltb, eqb}
 use borrow.Author.Tests.{ltb-true, ltb-false, eqb-true, eqb-false}
-use Rattle.packet.specs.Read.{window}
 use Rattle.packet.specs.declared.Packet.{Packet}
 use Rattle.promises.specs.Handed.{Within}
 use Rattle.renewal.specs.Table.{Entry, no_entry, slot_of, home_of}

@@ -28,7 +28,7 @@ use Rattle.promises.proofs.Refusing.{read_numbered}
 use Rattle.promises.proofs.HandedOut.{inside_within, within_inside, not_inside}
 use Rattle.promises.proofs.Places.{places}
 use Rattle.promises.proofs.Ends.{accepted_is}
-use Rattle.renewal.specs.Table.{no_entry, entry, slot_of}
+use Rattle.renewal.specs.Table.{no_entry, slot_of}
 use Rattle.renewal.specs.Renewal.{barred, store_small, own_bytes, holds, judged, renew_entry, table_renewed, renew_told}
 use Rattle.renewal.specs.declared.EntryRenewal.{EntryRenewal}
 use Rattle.renewal.specs.declared.EntryRenewal.TheVariants.{Lives, Dropped, Unrenewed}

@@ -2,9 +2,7 @@ use Rattle.body.proofs.Counts.{walked_counted, walked_faulty}
 use Rattle.body.specs.Walk.{open_body}
 use Rattle.body.specs.Answers.{check_body}
 use Rattle.body.specs.declared.Checked.TheVariants.{Faulty}
-use borrow.Author.Tests.{not-false}
 use mathlib.Core.Path.{sym, ap, ◌∙◌}
-use borrow.Author.Rules.{rules}
 use Rattle.body.proofs.check_body.Goals as goal
 
 pub returns-then-not-opens_kind : goal.returns-then-not-opens_kind

@@ -2,7 +2,6 @@ use Rattle.body.proofs.Reading.{fill_none, list_faulty, lists_all, lists_none}
 use Rattle.body.specs.Answers.{list_of, filled_after}
 use native.Mathlib.Omega.{arith}
 use mathlib.Core.Path.{refl, sym, ◌∙◌}
-use borrow.Author.Rules.{rules}
 use Rattle.body.proofs.list_messages.Goals as goal
 
 pub returns-then-starts-n : goal.returns-then-starts-n

@@ -3,7 +3,6 @@ use Rattle.body.specs.Answers.{pick_counted, message_at}
 use Rattle.body.specs.declared.Picked.TheVariants.{One}
 use native.Mathlib.Omega.{arith}
 use mathlib.Core.Path.{sym, ap, ◌∙◌}
-use borrow.Author.Rules.{rules}
 use Rattle.body.proofs.message_at.Goals as goal
 
 pub returns-then-n-number : goal.returns-then-n-number

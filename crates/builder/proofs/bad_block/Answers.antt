@@ -1,4 +1,3 @@
-use Rattle.std.proofs.Common.{rules}
 use Rattle.builder.proofs.bad_block.Goals as goal
 
 pub returns : goal.returns

@@ -1,4 +1,4 @@
-use Rattle.std.proofs.Common.{ℕ, sym, refl, ap, ◌∙◌, arith, rules, le-ltb, lt-ltb}
+use Rattle.std.proofs.Common.{ℕ, sym, refl, ap, ◌∙◌, arith, le-ltb, lt-ltb}
 use Rattle.terms.specs.Refusals.{needing, refused}
 use Rattle.builder.proofs.Drafts.{draft_facts, block_facts, denies}
 use Rattle.builder.specs.Build.{draft_added, add_step}

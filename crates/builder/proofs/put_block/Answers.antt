@@ -1,4 +1,4 @@
-use Rattle.std.proofs.Common.{ℕ, ◌+◌, ap, arith, rules}
+use Rattle.std.proofs.Common.{ℕ, ◌+◌, ap, arith}
 use Rattle.builder.proofs.Drafts.{block_put}
 use Rattle.builder.proofs.put_block.Goals as goal
 

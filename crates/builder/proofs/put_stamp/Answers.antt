@@ -1,7 +1,7 @@
 use Rattle.units.proofs.Writes.{splice_none}
 use Rattle.units.specs.Units.{bytes_of}
 use Rattle.body.specs.Walk.{stamp_length}
-use Rattle.std.proofs.Common.{◌≡◌, sym, ◌∙◌, arith, rules}
+use Rattle.std.proofs.Common.{◌≡◌, sym, ◌∙◌, arith}
 use Rattle.builder.proofs.put_stamp.Goals as goal
 
 pub put64-requires : goal.put64-requires

@@ -1,5 +1,4 @@
 use Rattle.builder.specs.Build.{grown}
-use Rattle.std.proofs.Common.{rules}
 use Rattle.builder.proofs.used_after.Goals as goal
 
 pub returns : goal.returns

@@ -1,5 +1,4 @@
 use mathlib.Core.Path.{refl}
-use borrow.Author.Rules.{rules}
 use Rattle.ch11.proofs.ch11_add.Goals as goal
 
 pub returns : goal.returns

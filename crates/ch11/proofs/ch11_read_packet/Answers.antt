@@ -1,6 +1,5 @@
 use mathlib.Core.Path.{sym, ap, ◌∙◌}
 use lib.ListN.{get_or}
-use borrow.Author.Rules.{rules}
 use Rattle.packet.specs.Read.{packet_told}
 use Rattle.ch11_words.specs.Words.{packet_words}
 use Rattle.ch11.proofs.ch11_read_packet.Goals as goal

@@ -1,5 +1,4 @@
 use mathlib.Core.Path.{refl, ap, ◌∙◌}
-use borrow.Author.Rules.{rules}
 use Rattle.ch11_words.specs.Words.{recording_words}
 use Rattle.ch11.proofs.ch11_read_recording.Goals as goal
 

@@ -1,6 +1,5 @@
 use mathlib.Core.Path.{sym, ap, ◌∙◌}
 use lib.ListN.{get_or}
-use borrow.Author.Rules.{rules}
 use Rattle.renewal.specs.Table.{slot_of}
 use Rattle.renewal.specs.Renewal.{table_renewed, renew_told}
 use Rattle.ch11_words.specs.Words.{renewed_words}

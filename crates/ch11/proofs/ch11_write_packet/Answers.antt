@@ -1,5 +1,4 @@
 use mathlib.Core.Path.{refl, ap, ◌∙◌}
-use borrow.Author.Rules.{rules}
 use Rattle.frame.specs.Contents.{contents}
 use Rattle.packet.specs.Write.{out_after, write_told}
 use Rattle.packet_bytes.specs.Bytes.{packet_bytes}

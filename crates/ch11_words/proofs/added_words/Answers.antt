@@ -1,5 +1,4 @@
 use mathlib.Core.Path.{sym, ap, ◌∙◌}
-use borrow.Author.Rules.{rules}
 use Rattle.renewal.specs.Renewal.{add_told}
 use Rattle.ch11_words.specs.Words.{added_words}
 use Rattle.ch11_words.proofs.added_words.Goals as goal

@@ -1,4 +1,3 @@
-use borrow.Author.Rules.{rules}
 use Rattle.ch11_words.specs.Words.{renewed_words}
 use Rattle.ch11_words.proofs.dropped_words.Goals as goal
 

@@ -1,5 +1,4 @@
 use mathlib.Core.Path.{sym, ap, ◌∙◌}
-use borrow.Author.Rules.{rules}
 use Rattle.packet.specs.Messages.{list_told}
 use Rattle.ch11_words.specs.Words.{list_words}
 use Rattle.ch11_words.proofs.list_words.Goals as goal

@@ -1,4 +1,3 @@
-use borrow.Author.Rules.{rules}
 use mathlib.Core.Path.{refl}
 use Rattle.ch11_words.specs.Words.{renewed_words}
 use Rattle.ch11_words.proofs.lives_words.Goals as goal

@@ -1,5 +1,4 @@
 use mathlib.Core.Path.{sym, ap, ◌∙◌}
-use borrow.Author.Rules.{rules}
 use Rattle.packet.specs.Messages.{message_told}
 use Rattle.ch11_words.specs.Words.{message_words}
 use Rattle.ch11_words.proofs.message_words.Goals as goal

@@ -1,5 +1,4 @@
 use mathlib.Core.Path.{refl}
-use borrow.Author.Rules.{rules}
 use Rattle.ch11_words.specs.Words.{packet_words}
 use Rattle.ch11_words.proofs.packet_words.Goals as goal
 

@@ -1,7 +1,4 @@
-use native.Mathlib.Omega.{arith}
-use lib.ListN.{length-set}
 use lib.Seq.{sets-eq}
-use borrow.Author.Rules.{rules}
 use Rattle.ch11_words.specs.Words.{refusal_words}
 use Rattle.ch11_words.proofs.put_refusal.Goals as goal
 

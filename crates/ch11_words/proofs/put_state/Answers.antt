@@ -1,7 +1,4 @@
-use native.Mathlib.Omega.{arith}
-use lib.ListN.{length-set}
 use lib.Seq.{sets-eq}
-use borrow.Author.Rules.{rules}
 use Rattle.ch11_words.specs.Words.{refusal_size, state_words}
 use Rattle.ch11_words.proofs.put_state.Goals as goal
 

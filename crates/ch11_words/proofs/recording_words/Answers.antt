@@ -1,4 +1,3 @@
-use borrow.Author.Rules.{rules}
 use Rattle.ch11_words.specs.Words.{recording_words}
 use Rattle.ch11_words.proofs.recording_words.Goals as goal
 

@@ -1,5 +1,4 @@
 use mathlib.Core.Path.{sym, ap, ◌∙◌}
-use borrow.Author.Rules.{rules}
 use Rattle.builder.specs.Build.{step_told}
 use Rattle.ch11_words.specs.Words.{draft_words}
 use Rattle.ch11_words.proofs.step_words.Goals as goal

@@ -1,5 +1,4 @@
 use mathlib.Core.Path.{sym, ap, ◌∙◌}
-use borrow.Author.Rules.{rules}
 use Rattle.packet.specs.Write.{write_told}
 use Rattle.ch11_words.specs.Words.{written_words}
 use Rattle.ch11_words.proofs.written_words.Goals as goal

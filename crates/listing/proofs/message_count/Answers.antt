@@ -1,4 +1,3 @@
-use borrow.Author.Rules.{rules}
 use Rattle.listing.proofs.Counting.{listed_count, room_count}
 use Rattle.listing.proofs.message_count.Goals as goal
 

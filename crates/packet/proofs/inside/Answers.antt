@@ -1,5 +1,4 @@
 use native.Mathlib.Omega.{arith}
-use borrow.Author.Rules.{rules}
 use borrow.Author.Tests.{leb-true}
 use Rattle.units.proofs.Choices.{and_true}
 use Rattle.packet.proofs.Passes.{inside_code, inside_not}

@@ -1,7 +1,5 @@
 use mathlib.Core.Path.{sym, ◌∙◌}
 use native.Mathlib.Omega.{arith}
-use borrow.Author.Tests.{not-true, not-false}
-use borrow.Author.Rules.{rules}
 use Rattle.packet.proofs.Answers.{list_kept}
 use Rattle.packet.proofs.Passes.{inside_says, window_ends, list_in, window_reach, list_outside, list_inside, list_says_no, list_says_yes, after_yes, after_no}
 use Rattle.packet.proofs.list_messages.Goals as goal

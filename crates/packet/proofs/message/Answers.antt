@@ -1,7 +1,5 @@
 use mathlib.Core.Path.{sym, ◌∙◌}
 use native.Mathlib.Omega.{arith}
-use borrow.Author.Tests.{not-true, not-false}
-use borrow.Author.Rules.{rules}
 use Rattle.packet.proofs.Passes.{inside_says, window_ends, message_in_lem, window_reach, message_outside, message_inside, message_says_no, message_says_yes}
 use Rattle.packet.proofs.message.Goals as goal
 

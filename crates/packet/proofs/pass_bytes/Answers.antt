@@ -1,4 +1,3 @@
-use borrow.Author.Rules.{rules}
 use Rattle.packet.proofs.Passes.{framed_sound, pass_framed_not, pass_on}
 use Rattle.packet.proofs.pass_bytes.Goals as goal
 

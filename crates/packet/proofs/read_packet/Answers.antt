@@ -1,7 +1,5 @@
 use mathlib.Core.Path.{sym, ◌∙◌}
 use native.Mathlib.Omega.{arith}
-use borrow.Author.Tests.{not-true, not-false}
-use borrow.Author.Rules.{rules}
 use Rattle.packet.proofs.Passes.{inside_says, window_ends, bytes_passed, pass_in, window_reach, pass_outside, pass_inside, read_barred, read_passed}
 use Rattle.packet.proofs.read_packet.Goals as goal
 

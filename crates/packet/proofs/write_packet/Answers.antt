@@ -1,6 +1,5 @@
 use mathlib.Core.Path.{refl, sym, ◌∙◌}
 use native.Mathlib.Omega.{arith}
-use borrow.Author.Rules.{rules}
 use Rattle.packet.proofs.Writes.{write_refused, write_on, write_capped, written_room, out_kept, out_put}
 use Rattle.packet.proofs.write_packet.Goals as goal
 

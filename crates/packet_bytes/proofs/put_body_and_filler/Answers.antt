@@ -1,4 +1,3 @@
-use borrow.Author.Rules.{rules}
 use Rattle.packet_bytes.proofs.Puts.{filled_put}
 use Rattle.packet_bytes.proofs.put_body_and_filler.Goals as goal
 

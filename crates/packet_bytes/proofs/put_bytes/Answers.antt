@@ -1,8 +1,5 @@
 use mathlib.Core.List.{◌∷◌, []}
-use native.Mathlib.Omega.{arith}
-use lib.ListN.{length-set}
 use lib.Seq.{sets-eq}
-use borrow.Author.Rules.{rules}
 use Rattle.packet_bytes.proofs.put_bytes.Goals as goal
 
 pub returns : goal.returns

@@ -1,4 +1,3 @@
-use borrow.Author.Rules.{rules}
 use Rattle.packet_bytes.proofs.Puts.{data_put}
 use Rattle.packet_bytes.proofs.put_data.Goals as goal
 

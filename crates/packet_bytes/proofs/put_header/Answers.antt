@@ -1,4 +1,3 @@
-use borrow.Author.Rules.{rules}
 use Rattle.packet_bytes.proofs.Puts.{head_put}
 use Rattle.packet_bytes.proofs.put_header.Goals as goal
 

@@ -1,4 +1,3 @@
-use borrow.Author.Rules.{rules}
 use Rattle.packet_bytes.proofs.Puts.{secondary_put, secondary_none}
 use Rattle.packet_bytes.proofs.put_secondary.Goals as goal
 

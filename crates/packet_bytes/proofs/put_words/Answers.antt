@@ -1,4 +1,3 @@
-use borrow.Author.Rules.{rules}
 use Rattle.packet_bytes.proofs.Puts.{words_put}
 use Rattle.packet_bytes.proofs.put_words.Goals as goal
 

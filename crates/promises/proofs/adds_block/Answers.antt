@@ -1,4 +1,3 @@
-use borrow.Author.Rules.{rules}
 use Rattle.promises.proofs.adds_block.Goals as goal
 
 -- Adding answers as promised, on numbers of its types.

@@ -1,4 +1,3 @@
-use borrow.Author.Rules.{rules}
 use Rattle.promises.proofs.closes_body.Goals as goal
 
 -- Closing answers as promised.

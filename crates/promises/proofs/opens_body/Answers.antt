@@ -1,4 +1,3 @@
-use borrow.Author.Rules.{rules}
 use Rattle.promises.proofs.opens_body.Goals as goal
 
 -- Opening answers as promised.

@@ -1,5 +1,4 @@
 use native.Mathlib.Omega.{arith}
-use borrow.Author.Rules.{rules}
 use Rattle.units.proofs.Numbers.{bytes_known}
 use Rattle.promises.proofs.reads_recording.Goals as goal
 

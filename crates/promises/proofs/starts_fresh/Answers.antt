@@ -1,4 +1,3 @@
-use borrow.Author.Rules.{rules}
 use Rattle.promises.proofs.starts_fresh.Goals as goal
 
 -- A fresh state is as promised.

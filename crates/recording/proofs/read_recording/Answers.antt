@@ -1,9 +1,6 @@
-use borrow.Author.Tests.{not-true, not-false}
 use mathlib.Core.Path.{sym, ◌∙◌}
-use Prim.Native.Nat.{◌-◌}
 use native.Mathlib.Omega.{arith}
-use Rattle.recording.proofs.Readings.{Tally, recording_outside, tally_first, tally_ends, tally_passed, tally_stops, tally_end, tally_reach, tally_barred}
-use borrow.Author.Rules.{rules}
+use Rattle.recording.proofs.Readings.{recording_outside, tally_first, tally_ends, tally_passed, tally_stops, tally_end, tally_reach, tally_barred}
 use Rattle.recording.proofs.read_recording.Goals as goal
 
 pub returns-then-not-inside : goal.returns-then-not-inside

@@ -1,5 +1,4 @@
 use mathlib.Core.Path.{sym, ◌∙◌}
-use borrow.Author.Rules.{rules}
 use Rattle.renewal.proofs.Passing.{taken, barred_back}
 use Rattle.renewal.proofs.Adding.{table_left, store_left, table_anywhere, store_own, add_small, add_refused, add_taken}
 use Rattle.renewal.proofs.add.Goals as goal

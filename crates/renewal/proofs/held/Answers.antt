@@ -1,7 +1,6 @@
 use mathlib.Core.Path.{◌≡◌}
 use Prim.Native.Nat.{◌+◌, ◌*◌, ◌-◌}
 use native.Mathlib.Omega.{arith}
-use borrow.Author.Rules.{rules}
 use Rattle.renewal.proofs.Renewing.{held_forged, held_other, held_by}
 use Rattle.renewal.proofs.held.Goals as goal
 

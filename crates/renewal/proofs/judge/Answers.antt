@@ -1,7 +1,6 @@
 use mathlib.Core.Path.{◌≡◌, sym, ◌∙◌}
 use Prim.Native.Nat.{◌+◌, ◌-◌}
 use native.Mathlib.Omega.{arith}
-use borrow.Author.Rules.{rules}
 use Rattle.renewal.proofs.Passing.{taken, barred_back}
 use Rattle.renewal.proofs.Renewing.{judge_refused, judge_lives, judge_differs}
 use Rattle.renewal.proofs.judge.Goals as goal

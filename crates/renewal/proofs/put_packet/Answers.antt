@@ -1,7 +1,6 @@
 use mathlib.Core.Path.{◌≡◌, ◌∙◌}
 use Prim.Native.Nat.{◌-◌}
 use native.Mathlib.Omega.{arith}
-use borrow.Author.Rules.{rules}
 use Rattle.renewal.proofs.Adding.{put_long, put_full, put_goes, table_left, store_left, table_set, store_set}
 use Rattle.renewal.proofs.put_packet.Goals as goal
 

@@ -1,7 +1,5 @@
 use mathlib.Core.Path.{sym, ap, ◌∙◌}
 use native.Mathlib.Omega.{arith}
-use borrow.Author.Tests.{not-true, not-false}
-use borrow.Author.Rules.{rules}
 use Rattle.renewal.specs.Renewal.{table_renewed}
 use Rattle.renewal.proofs.Renewing.{renew_small, renew_none, renew_outside, renew_judged, table_kept}
 use Rattle.renewal.proofs.renew.Goals as goal
@@ -15,10 +13,16 @@ returns-then-k-ge64 c =
 
 pub returns-then-not-inside : goal.returns-then-not-inside
 returns-then-not-inside c =
-    record { value = renew_outside _ _ _ _ _ _ _ c.if-store-lt65536.false _ c.slot_of-k.ensures _ (omega arith)
-          (sym c.inside.ensures ∙ c.if-not-inside.true) c.outside.ensures; table_after = table_kept _ _ _ }
+    record {
+      value = renew_outside _ _ _ _ _ _ _ c.if-store-lt65536.false _ c.slot_of-k.ensures _ (omega arith)
+          (sym c.inside.ensures ∙ c.if-not-inside.true) c.outside.ensures;
+      table_after = table_kept _ _ _;
+    }
 
 pub returns : goal.returns
 returns c =
-    record { value = renew_judged _ _ _ _ _ _ _ c.if-store-lt65536.false _ c.slot_of-k.ensures _ (omega arith)
-          (sym c.inside.ensures ∙ c.if-not-inside.false) c.judge-told.ensures; table_after = c.settle.ensures ∙ ap (table_renewed _ _) c.slot_of-k.ensures }
+    record {
+      value = renew_judged _ _ _ _ _ _ _ c.if-store-lt65536.false _ c.slot_of-k.ensures _ (omega arith)
+          (sym c.inside.ensures ∙ c.if-not-inside.false) c.judge-told.ensures;
+      table_after = c.settle.ensures ∙ ap (table_renewed _ _) c.slot_of-k.ensures;
+    }

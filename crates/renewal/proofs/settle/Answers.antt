@@ -1,5 +1,4 @@
 use mathlib.Core.Path.{◌∙◌}
-use borrow.Author.Rules.{rules}
 use Rattle.renewal.specs.Renewal.{table_renewed}
 use Rattle.renewal.proofs.settle.Goals as goal
 

@@ -1,6 +1,5 @@
 use mathlib.Core.Path.{ap, ◌∙◌}
 use native.Mathlib.Omega.{arith}
-use borrow.Author.Rules.{rules}
 use Rattle.terms.specs.Refusals.{recorded}
 use Rattle.terms.specs.declared.Refusal.{Refusal}
 use Rattle.renewal.proofs.store_small.Goals as goal

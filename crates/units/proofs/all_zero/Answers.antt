@@ -1,4 +1,4 @@
-use Rattle.std.proofs.Common.{◌≡◌, ℕ, ◌-◌, ◌<◌, ◌≤◌, length, get_or, sym, arith, below_more}
+use Rattle.std.proofs.Common.{sym, arith, below_more}
 use Rattle.units.proofs.Numbers.{zeros_true, zeros_false}
 use Rattle.units.proofs.all_zero.Goals as goal
 

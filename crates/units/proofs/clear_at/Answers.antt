@@ -1,4 +1,4 @@
-use Rattle.std.proofs.Common.{◌≡◌, ◌*◌, ◌/◌, refl, ◌∙◌, arith, rules}
+use Rattle.std.proofs.Common.{◌≡◌, ◌*◌, ◌/◌, refl, ◌∙◌, arith}
 use Rattle.units.proofs.Writes.{one_more}
 use Rattle.units.proofs.clear_at.Goals as goal
 

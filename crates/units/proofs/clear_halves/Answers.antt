@@ -1,7 +1,7 @@
-use Rattle.std.proofs.Common.{◌≡◌, ℕ, ◌+◌, ◌-◌, ◌*◌, ◌≤◌, length, replicate, refl, ◌∙◌, arith, length-set}
+use Rattle.std.proofs.Common.{◌≡◌, ℕ, ◌+◌, ◌*◌, length, replicate, refl, ◌∙◌, arith, length-set}
 use lib.ListN.{length-replicate, get_or-replicate, replicate-append-replicate}
 use lib.Seq.{paste, paste-zero}
-use Rattle.units.proofs.Writes.{twice, twice_step, twice_whole}
+use Rattle.units.proofs.Writes.{twice_step, twice_whole}
 use Rattle.units.proofs.clear_halves.Goals as goal
 
 pub loop-i-init : goal.loop-i-init

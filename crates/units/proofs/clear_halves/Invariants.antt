@@ -1,7 +1,5 @@
-use Rattle.std.proofs.Common.{◌≡◌, ℕ, ◌+◌, ◌-◌, ◌*◌, ◌≤◌, length, replicate, refl, ◌∙◌, arith, length-set}
-use lib.ListN.{length-replicate, get_or-replicate, replicate-append-replicate}
-use lib.Seq.{paste, paste-zero}
-use Rattle.units.proofs.Writes.{twice, twice_step, twice_whole}
+use Rattle.std.proofs.Common.{◌≡◌, ◌+◌, ◌-◌, ◌≤◌, length, replicate}
+use Rattle.units.proofs.Writes.{twice}
 use Rattle.units.proofs.clear_halves.Given as goal
 
 abbrev pub invariant-loop-i : goal.invariant-loop-i

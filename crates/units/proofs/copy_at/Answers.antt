@@ -1,5 +1,5 @@
-use Rattle.std.proofs.Common.{◌≡◌, ◌-◌, ◌≤◌, length, get_or, refl, ◌∙◌, arith, length-set}
-use lib.Seq.{paste, paste-zero}
+use Rattle.std.proofs.Common.{get_or, refl, ◌∙◌, arith, length-set}
+use lib.Seq.{paste-zero}
 use Rattle.units.proofs.Writes.{paste_step, paste_whole}
 use Rattle.units.proofs.copy_at.Goals as goal
 

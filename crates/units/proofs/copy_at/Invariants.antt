@@ -1,6 +1,5 @@
-use Rattle.std.proofs.Common.{◌≡◌, ◌-◌, ◌≤◌, length, get_or, refl, ◌∙◌, arith, length-set}
-use lib.Seq.{paste, paste-zero}
-use Rattle.units.proofs.Writes.{paste_step, paste_whole}
+use Rattle.std.proofs.Common.{◌≡◌, ◌-◌, ◌≤◌, length}
+use lib.Seq.{paste}
 use Rattle.units.proofs.copy_at.Given as goal
 
 abbrev pub invariant-loop-i : goal.invariant-loop-i

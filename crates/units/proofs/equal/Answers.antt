@@ -1,4 +1,4 @@
-use Rattle.std.proofs.Common.{◌-◌, ◌%◌, length, arith, rules}
+use Rattle.std.proofs.Common.{◌-◌, ◌%◌, length, arith}
 use Rattle.units.proofs.Sames.{same_whole, same_over}
 use Rattle.units.proofs.equal.Goals as goal
 

@@ -1,5 +1,4 @@
-use Rattle.std.proofs.Common.{◌≡◌, ◌-◌, ◌≤◌, ◌&&◌, length, drop, refl, arith}
-use Rattle.units.specs.Units.{same}
+use Rattle.std.proofs.Common.{refl, arith}
 use Rattle.units.proofs.Sames.{same_next, same_end}
 use Rattle.units.proofs.equal_bytes.Goals as goal
 

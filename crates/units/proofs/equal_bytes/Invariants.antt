@@ -1,6 +1,5 @@
-use Rattle.std.proofs.Common.{◌≡◌, ◌-◌, ◌≤◌, ◌&&◌, length, drop, refl, arith}
+use Rattle.std.proofs.Common.{◌≡◌, ◌-◌, ◌≤◌, ◌&&◌, length, drop}
 use Rattle.units.specs.Units.{same}
-use Rattle.units.proofs.Sames.{same_next, same_end}
 use Rattle.units.proofs.equal_bytes.Given as goal
 
 abbrev pub invariant-loop-i : goal.invariant-loop-i

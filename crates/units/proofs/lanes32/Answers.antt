@@ -1,5 +1,5 @@
-use Rattle.std.proofs.Common.{◌-◌, arith}
-use Rattle.units.proofs.Sums.{Lanes, lanes_first, lanes_next, lanes_last}
+use Rattle.std.proofs.Common.{arith}
+use Rattle.units.proofs.Sums.{lanes_first, lanes_next, lanes_last}
 use Rattle.units.proofs.lanes32.Goals as goal
 
 pub loop-i-preserved : goal.loop-i-preserved

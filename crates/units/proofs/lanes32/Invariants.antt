@@ -1,5 +1,5 @@
-use Rattle.std.proofs.Common.{◌-◌, arith}
-use Rattle.units.proofs.Sums.{Lanes, lanes_first, lanes_next, lanes_last}
+use Rattle.std.proofs.Common.{◌-◌}
+use Rattle.units.proofs.Sums.{Lanes}
 use Rattle.units.proofs.lanes32.Given as goal
 
 abbrev pub invariant-loop-i : goal.invariant-loop-i

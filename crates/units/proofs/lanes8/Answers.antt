@@ -1,7 +1,7 @@
-use Rattle.std.proofs.Common.{◌≡◌, ℕ, ◌+◌, ◌-◌, ◌*◌, ◌/◌, List, get_or, sym, one-mul, arith}
+use Rattle.std.proofs.Common.{◌≡◌, ℕ, ◌+◌, ◌*◌, ◌/◌, List, get_or, sym, one-mul, arith}
 use Rattle.units.specs.Units.{field}
 use Rattle.units.proofs.Parts.{field_one}
-use Rattle.units.proofs.Sums.{Lanes, lanes_first, lanes_next, lanes_last}
+use Rattle.units.proofs.Sums.{lanes_first, lanes_next, lanes_last}
 use Rattle.units.proofs.lanes8.Goals as goal
 
 unit : (s : List ℕ) (k : ℕ) → get_or s k 0 ≡ field s (1 * k) 1

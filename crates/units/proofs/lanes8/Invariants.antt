@@ -1,7 +1,5 @@
-use Rattle.std.proofs.Common.{◌≡◌, ℕ, ◌+◌, ◌-◌, ◌*◌, ◌/◌, List, get_or, sym, one-mul, arith}
-use Rattle.units.specs.Units.{field}
-use Rattle.units.proofs.Parts.{field_one}
-use Rattle.units.proofs.Sums.{Lanes, lanes_first, lanes_next, lanes_last}
+use Rattle.std.proofs.Common.{◌-◌}
+use Rattle.units.proofs.Sums.{Lanes}
 use Rattle.units.proofs.lanes8.Given as goal
 
 abbrev pub invariant-loop-i : goal.invariant-loop-i

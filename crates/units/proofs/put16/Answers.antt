@@ -1,4 +1,3 @@
-use Rattle.std.proofs.Common.{arith, length-set, rules}
 use native.Mathlib.Numerals.{towards_numerals}
 use Rattle.units.specs.Units.{bytes_of}
 use Rattle.units.proofs.Writes.{stored}

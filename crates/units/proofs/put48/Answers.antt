@@ -1,4 +1,3 @@
-use Rattle.std.proofs.Common.{rules}
 use Rattle.units.proofs.Writes.{put_two}
 use Rattle.units.proofs.put48.Goals as goal
 

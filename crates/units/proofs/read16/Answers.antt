@@ -1,4 +1,4 @@
-use Rattle.std.proofs.Common.{arith, rules}
+use Rattle.std.proofs.Common.{arith}
 use Rattle.units.proofs.Parts.{field_two}
 use Rattle.units.proofs.read16.Goals as goal
 

@@ -1,5 +1,5 @@
-use Rattle.std.proofs.Common.{◌-◌, arith}
-use Rattle.units.proofs.Sums.{Summing, summing_first, summing_next, summing_last}
+use Rattle.std.proofs.Common.{arith}
+use Rattle.units.proofs.Sums.{summing_first, summing_next, summing_last}
 use Rattle.units.proofs.sum16.Goals as goal
 
 pub loop-k-preserved : goal.loop-k-preserved

@@ -1,5 +1,5 @@
-use Rattle.std.proofs.Common.{◌-◌, arith}
-use Rattle.units.proofs.Sums.{Summing, summing_first, summing_next, summing_last}
+use Rattle.std.proofs.Common.{◌-◌}
+use Rattle.units.proofs.Sums.{Summing}
 use Rattle.units.proofs.sum32.Given as goal
 
 abbrev pub invariant-loop-k : goal.invariant-loop-k

@@ -1,6 +1,6 @@
-use Rattle.std.proofs.Common.{◌-◌, get_or, sym, one-mul, arith}
+use Rattle.std.proofs.Common.{get_or, sym, one-mul, arith}
 use Rattle.units.proofs.Parts.{field_one}
-use Rattle.units.proofs.Sums.{Summing, summing_first, summing_next, summing_last}
+use Rattle.units.proofs.Sums.{summing_first, summing_next, summing_last}
 use Rattle.units.proofs.sum8.Goals as goal
 
 pub loop-k-preserved : goal.loop-k-preserved

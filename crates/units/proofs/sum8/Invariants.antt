@@ -1,6 +1,5 @@
-use Rattle.std.proofs.Common.{◌-◌, get_or, sym, one-mul, arith}
-use Rattle.units.proofs.Parts.{field_one}
-use Rattle.units.proofs.Sums.{Summing, summing_first, summing_next, summing_last}
+use Rattle.std.proofs.Common.{◌-◌}
+use Rattle.units.proofs.Sums.{Summing}
 use Rattle.units.proofs.sum8.Given as goal
 
 abbrev pub invariant-loop-k : goal.invariant-loop-k

@@ -1,11 +1,8 @@
-use Rattle.body.proofs.Counts.{has_messages, ReadingIn, in_first, in_fits, in_ahead, in_message}
+use Rattle.body.proofs.Counts.{has_messages, in_first, in_fits, in_ahead, in_message}
 use Rattle.body.proofs.Reading.{fill_next}
-use Rattle.body.specs.Answers.{check_body, message_in, tab, filled, starts_of, lengths_of}
-use Rattle.terms.specs.declared.TimeRule.{TimeRule}
-use Rattle.body.specs.declared.Checked.TheVariants.{Counted}
+use Rattle.body.specs.Answers.{message_in, tab, filled, starts_of, lengths_of}
 use Rattle.body.specs.declared.Message.{Message}
-use lib.ListN.{length}
-use Prim.Native.Nat.{◌≤◌, ◌-◌, ◌+◌}
+use Prim.Native.Nat.{◌+◌}
 use native.Mathlib.Omega.{arith}
 use mathlib.Core.Path.{◌≡◌, refl, ap}
 use borrow.Author.Rules.{rules}

@@ -1,14 +1,10 @@
-use Rattle.body.proofs.Counts.{has_messages, ReadingIn, in_first, in_fits, in_ahead, in_message}
-use Rattle.body.proofs.Reading.{fill_next}
-use Rattle.body.specs.Answers.{check_body, message_in, tab, filled, starts_of, lengths_of}
+use Rattle.body.proofs.Counts.{ReadingIn}
+use Rattle.body.specs.Answers.{check_body, message_in, filled, starts_of, lengths_of}
 use Rattle.terms.specs.declared.TimeRule.{TimeRule}
 use Rattle.body.specs.declared.Checked.TheVariants.{Counted}
-use Rattle.body.specs.declared.Message.{Message}
 use lib.ListN.{length}
-use Prim.Native.Nat.{◌≤◌, ◌-◌, ◌+◌}
-use native.Mathlib.Omega.{arith}
-use mathlib.Core.Path.{◌≡◌, refl, ap}
-use borrow.Author.Rules.{rules}
+use Prim.Native.Nat.{◌≤◌, ◌-◌}
+use mathlib.Core.Path.{◌≡◌}
 use Rattle.body.proofs.list.fill_lists.Given as goal
 
 abbrev pub invariant-loop-k : goal.invariant-loop-k

@@ -1,9 +1,7 @@
-use Rattle.body.proofs.Counts.{has_messages, ReadingIn, in_first, in_fits, in_ahead, in_message}
+use Rattle.body.proofs.Counts.{has_messages, in_first, in_fits, in_ahead, in_message}
 use Rattle.body.specs.Answers.{message_in}
-use Prim.Native.Nat.{◌≤◌, ◌-◌}
 use native.Mathlib.Omega.{arith}
 use mathlib.Core.Path.{◌≡◌, ap, ◌∙◌}
-use borrow.Author.Rules.{rules}
 use Rattle.body.proofs.list.seek.Goals as goal
 
 pub form_in-form-requires : goal.form_in-form-requires

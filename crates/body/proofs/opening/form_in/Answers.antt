@@ -1,5 +1,4 @@
 use mathlib.Core.Path.{sym}
-use borrow.Author.Rules.{rules}
 use Rattle.body.proofs.opening.form_in.Goals as goal
 
 pub returns-then-kind-read32 : goal.returns-then-kind-read32

@@ -3,8 +3,7 @@ use Rattle.body.specs.Walk.{counter_ok, message_shape}
 use lib.Dec.{ltb}
 use mathlib.Core.Bool.{true, false, ◌&&◌}
 use mathlib.Core.Path.{◌≡◌, refl}
-use borrow.Author.Tests.{eq-eqb, ne_eqb, not-true, not-false}
-use borrow.Author.Rules.{rules}
+use borrow.Author.Tests.{eq-eqb, ne_eqb}
 use Rattle.body.proofs.opening.message_shape.Goals as goal
 
 pub returns-then-not-word-counter_ok : goal.returns-then-not-word-counter_ok

@@ -2,7 +2,6 @@ use mathlib.Core.Bool.{false, not}
 use Rattle.body.specs.Walk.{opens, open_body}
 use mathlib.Core.Path.{◌≡◌, ◌∙◌, refl}
 use borrow.Author.Tests.{lt-ltb, le-ltb, eq-eqb, ne_eqb}
-use borrow.Author.Rules.{rules}
 use Rattle.body.proofs.opening.open_body.Goals as goal
 
 pub returns-then-body-lt4 : goal.returns-then-body-lt4

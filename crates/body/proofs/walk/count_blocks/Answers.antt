@@ -1,12 +1,8 @@
-use Rattle.body.proofs.Walking.{Counting, counting_first, counting_stop, ending_exact, ending_over}
+use Rattle.body.proofs.Walking.{counting_first, counting_stop, ending_exact, ending_over}
 use Rattle.body.proofs.Steps.{step_fault, step_on}
 use Rattle.body.specs.inner.Walks.{walked}
-use borrow.Author.Tests.{not-true, not-false}
-use lib.ListN.{length}
-use Prim.Native.Nat.{◌-◌}
 use native.Mathlib.Omega.{arith}
 use mathlib.Core.Path.{sym, ap, ◌∙◌}
-use borrow.Author.Rules.{rules}
 use Rattle.body.proofs.walk.count_blocks.Goals as goal
 
 pub loop-shape-init : goal.loop-shape-init

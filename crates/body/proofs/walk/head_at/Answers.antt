@@ -3,7 +3,6 @@ use native.Mathlib.Nat.{add-zero}
 use Rattle.body.specs.Walk.{stamp_length, head_at}
 use native.Mathlib.Omega.{arith}
 use mathlib.Core.Path.{◌≡◌}
-use borrow.Author.Rules.{rules}
 use Rattle.body.proofs.walk.head_at.Goals as goal
 
 pub read64-time-requires : goal.read64-time-requires

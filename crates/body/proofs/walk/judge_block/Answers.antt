@@ -1,11 +1,9 @@
 use Rattle.body.proofs.Walking.{judge_short, judge_time, judge_empty, judge_pad}
 use Rattle.terms.proofs.Times.{form_kept, form_broken}
 use Rattle.body.specs.inner.Walks.{stepped}
-use borrow.Author.Tests.{ltb-true, ltb-false, not-true, not-false}
 use mathlib.Core.Bool.{true, false}
 use mathlib.Core.Path.{sym, ap, ◌∙◌}
 use native.Mathlib.Omega.{arith}
-use borrow.Author.Rules.{rules}
 use Rattle.body.proofs.walk.judge_block.Goals as goal
 
 -- a block cut short, its time out of form or not

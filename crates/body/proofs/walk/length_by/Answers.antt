@@ -1,5 +1,4 @@
 use mathlib.Core.Path.{refl}
-use borrow.Author.Rules.{rules}
 use Rattle.body.specs.Walk.{length_by}
 use Rattle.body.proofs.walk.length_by.Goals as goal
 

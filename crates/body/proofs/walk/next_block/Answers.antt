@@ -5,7 +5,6 @@ use Rattle.body.proofs.Steps.{none_there, cut_short, judged}
 use Rattle.body.proofs.Blocks.{says_short}
 use native.Mathlib.Omega.{arith}
 use mathlib.Core.Path.{ap, ◌∙◌}
-use borrow.Author.Rules.{rules}
 use Rattle.body.proofs.walk.next_block.Goals as goal
 
 pub returns-then-body-at-2 : goal.returns-then-body-at-2

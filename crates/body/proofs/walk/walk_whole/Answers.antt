@@ -4,7 +4,6 @@ use Rattle.body.proofs.Exactly.{check_shaped}
 use Rattle.body.specs.Answers.{check_body}
 use Rattle.body.specs.inner.Walks.{walked}
 use mathlib.Core.Path.{sym, ap, ◌∙◌}
-use borrow.Author.Rules.{rules}
 use Rattle.body.proofs.walk.walk_whole.Goals as goal
 
 pub count_blocks-requires : goal.count_blocks-requires

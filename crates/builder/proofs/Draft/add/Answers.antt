@@ -1,4 +1,4 @@
-use Rattle.std.proofs.Common.{length, sym, ◌∙◌, rules}
+use Rattle.std.proofs.Common.{length, sym, ◌∙◌}
 use Rattle.builder.proofs.Drafts.{block_facts, add_done, buf_kept, buf_put}
 use Rattle.builder.specs.Build.{grown}
 use Rattle.builder.proofs.Draft.add.Goals as goal

@@ -1,7 +1,7 @@
 use Rattle.units.proofs.Numbers.{bytes_of_mod}
 use Rattle.builder.proofs.Drafts.{draft_facts, denies, buf_kept}
 use Rattle.builder.specs.Build.{close_step, buf_after}
-use Rattle.std.proofs.Common.{length, sym, refl, ◌∙◌, arith, rules, eq-eqb, ne_eqb}
+use Rattle.std.proofs.Common.{length, sym, refl, ◌∙◌, arith, eq-eqb, ne_eqb}
 use Rattle.units.proofs.Choices.{chosen, skipped}
 use Rattle.builder.proofs.Draft.close.Goals as goal
 
@@ -11,8 +11,11 @@ returns-then-bad_draft c = record { value = denies _ _ _ c.refuse.ensures ∙ ch
 
 pub returns-then-self-eq4 : goal.returns-then-self-eq4
 unfolding close_step
-returns-then-self-eq4 c = record { value = denies _ _ _ c.fault.ensures
-      ∙ skipped _ _ _ c.bad_draft.ensures c.if-bad_draft.false (chosen _ _ refl (eq-eqb _ _ c.if-self-eq4.true)); buf_after = buf_kept _ _ _ _ _ _ refl }
+returns-then-self-eq4 c = record {
+  value = denies _ _ _ c.fault.ensures
+      ∙ skipped _ _ _ c.bad_draft.ensures c.if-bad_draft.false (chosen _ _ refl (eq-eqb _ _ c.if-self-eq4.true));
+  buf_after = buf_kept _ _ _ _ _ _ refl;
+}
 
 pub put16-requires : goal.put16-requires
 put16-requires c =

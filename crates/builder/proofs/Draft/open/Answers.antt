@@ -1,4 +1,4 @@
-use Rattle.std.proofs.Common.{not, refl, ap, ◌∙◌, rules, le-ltb, lt-ltb}
+use Rattle.std.proofs.Common.{not, refl, ap, ◌∙◌, le-ltb, lt-ltb}
 use Rattle.builder.proofs.Drafts.{denies, buf_kept}
 use Rattle.builder.specs.Build.{open_step, buf_after}
 use Rattle.units.proofs.Choices.{chosen, skipped}

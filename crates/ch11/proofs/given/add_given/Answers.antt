@@ -1,5 +1,4 @@
 use mathlib.Core.Path.{sym, ◌∙◌}
-use borrow.Author.Rules.{rules}
 use Rattle.ch11.proofs.Giving.{over_add, refused_as, add_as}
 use Rattle.ch11.proofs.given.add_given.Goals as goal
 

@@ -1,7 +1,6 @@
 use mathlib.Core.Path.{refl}
 use native.Mathlib.Omega.{arith}
 use borrow.Author.Tests.{lt-ltb, le-ltb}
-use borrow.Author.Rules.{rules}
 use Rattle.ch11.proofs.given.bytes_beside.Goals as goal
 
 pub returns-then-upper-gt65535 : goal.returns-then-upper-gt65535

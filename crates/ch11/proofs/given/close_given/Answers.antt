@@ -1,5 +1,4 @@
 use mathlib.Core.Path.{sym, ◌∙◌}
-use borrow.Author.Rules.{rules}
 use lib.ListN.{length}
 use Rattle.builder.specs.Build.{close_step, counter_bytes}
 use Rattle.ch11.proofs.Giving.{over_close, refused_as, step_as}

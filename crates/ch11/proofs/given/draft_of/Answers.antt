@@ -1,5 +1,4 @@
 use native.Mathlib.Omega.{arith}
-use borrow.Author.Rules.{rules}
 use Rattle.ch11.specs.Given.{draft_of}
 use Rattle.ch11.proofs.Giving.{in_byte}
 use Rattle.ch11.proofs.given.draft_of.Goals as goal

@@ -1,5 +1,4 @@
 use native.Mathlib.Omega.{arith}
-use borrow.Author.Rules.{rules}
 use Rattle.ch11.specs.Given.{fields_of}
 use Rattle.ch11.proofs.Giving.{fits}
 use Rattle.ch11.proofs.given.fields_of.Goals as goal

@@ -1,6 +1,5 @@
 use mathlib.Core.Path.{sym, ◌∙◌}
 use native.Mathlib.Omega.{arith}
-use borrow.Author.Rules.{rules}
 use Rattle.ch11.proofs.Giving.{over_open, in_byte, opened_as, unopened_as, refused_as}
 use Rattle.ch11.proofs.given.open_given.Goals as goal
 

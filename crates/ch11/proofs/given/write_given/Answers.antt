@@ -1,7 +1,5 @@
 use mathlib.Core.Path.{refl, sym, ap, ◌∙◌}
 use mathlib.Core.Bool.{not}
-use borrow.Author.Rules.{rules}
-use borrow.Author.Tests.{not-false}
 use Rattle.packet.proofs.Writes.{out_kept}
 use Rattle.ch11.proofs.Giving.{unfit, fit_as}
 use Rattle.ch11.proofs.given.write_given.Goals as goal

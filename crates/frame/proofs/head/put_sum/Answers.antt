@@ -2,7 +2,6 @@ use mathlib.Core.Path.{◌≡◌, sym, ap, ◌∙◌}
 use mathlib.Core.List.{List}
 use Prim.Native.Nat.{ℕ}
 use native.Mathlib.Omega.{arith}
-use borrow.Author.Rules.{rules}
 use Rattle.units.specs.Units.{splice, bytes_of}
 use Rattle.units.proofs.Numbers.{bytes_of_mod}
 use Rattle.units.proofs.Writes.{splice_none}

@@ -1,4 +1,3 @@
-use borrow.Author.Rules.{rules}
 use Rattle.frame.proofs.Types.{all_flags}
 use Rattle.frame.proofs.rules.flags_ok.Goals as goal
 

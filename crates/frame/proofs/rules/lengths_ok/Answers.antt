@@ -1,4 +1,3 @@
-use borrow.Author.Rules.{rules}
 use Rattle.frame.proofs.Frames.{lengths_test}
 use Rattle.frame.proofs.rules.lengths_ok.Goals as goal
 

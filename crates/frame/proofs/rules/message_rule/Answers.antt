@@ -1,6 +1,5 @@
 use mathlib.Core.Path.{refl, ◌∙◌, ap}
 use borrow.Author.Tests.{eq-eqb, ne_eqb}
-use borrow.Author.Rules.{rules}
 use Rattle.terms.specs.Times.{rule_of}
 use Rattle.units.proofs.Choices.{chosen, skipped}
 use Rattle.frame.specs.Rules.{message_rule}

@@ -1,4 +1,3 @@
-use borrow.Author.Rules.{rules}
 use Rattle.frame.proofs.rules.secondary_time_ok.Goals as goal
 
 pub returns : goal.returns

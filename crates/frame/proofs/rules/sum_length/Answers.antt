@@ -1,6 +1,5 @@
 use mathlib.Core.Path.{sym}
 use native.Mathlib.Omega.{arith}
-use borrow.Author.Rules.{rules}
 use Rattle.frame.proofs.Widths.{width_is, width_three}
 use Rattle.frame.proofs.rules.sum_length.Goals as goal
 

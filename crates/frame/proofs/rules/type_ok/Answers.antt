@@ -1,4 +1,3 @@
-use borrow.Author.Rules.{rules}
 use Rattle.frame.proofs.Types.{low_types, high_types, no_types}
 use Rattle.frame.proofs.rules.type_ok.Goals as goal
 

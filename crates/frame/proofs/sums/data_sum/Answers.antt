@@ -1,5 +1,4 @@
 use mathlib.Core.Path.{ap, ◌∙◌}
-use borrow.Author.Rules.{rules}
 use Rattle.frame.specs.Sums.{data_sum}
 use Rattle.units.proofs.Parts.{part_whole}
 use Rattle.frame.proofs.sums.data_sum.Goals as goal

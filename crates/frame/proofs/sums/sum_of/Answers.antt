@@ -3,7 +3,6 @@ use mathlib.Core.Path.{◌≡◌, sym, ap, ◌∙◌}
 use Prim.Native.Nat.{ℕ, ◌%◌, ◌/◌}
 use native.Mathlib.Nat.{mod-one, div-one}
 use lib.ListN.{length}
-use borrow.Author.Rules.{rules}
 use Rattle.units.specs.Units.{sum_units}
 use Rattle.frame.specs.Sums.{data_sum}
 use Rattle.frame.proofs.sums.sum_of.Goals as goal

@@ -1,5 +1,4 @@
 use lib.ListN.{get_or}
-use borrow.Author.Rules.{rules}
 use Rattle.frame.specs.Header.{fields_in}
 use Rattle.frame.proofs.table.fields_in.Goals as goal
 

@@ -1,7 +1,6 @@
 use mathlib.Core.Path.{ap, ◌∙◌}
 use mathlib.Core.List.{List}
 use Prim.Native.Nat.{ℕ}
-use borrow.Author.Rules.{rules}
 use Rattle.units.proofs.Parts.{part_whole}
 use Rattle.frame.specs.Table.{first, frame_lines}
 use Rattle.frame.proofs.table.frame_refusal.Goals as goal

@@ -1,4 +1,3 @@
-use borrow.Author.Rules.{rules}
 use Rattle.units.specs.Units.{summed}
 use Rattle.frame.proofs.table.header_summed.Goals as goal
 

@@ -1,4 +1,3 @@
-use borrow.Author.Rules.{rules}
 use Rattle.frame.proofs.table.value_refusal_in.Goals as goal
 
 pub returns : goal.returns

@@ -1,4 +1,3 @@
-use borrow.Author.Rules.{rules}
 use Rattle.packet.proofs.Answers.{list_kept}
 use Rattle.packet.proofs.Passes.{framed_sound, list_framed_not, list_on}
 use Rattle.packet.proofs.framed.list_bytes.Goals as goal

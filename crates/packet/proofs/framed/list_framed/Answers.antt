@@ -1,6 +1,5 @@
 use mathlib.Core.Path.{refl, sym, ap, ◌∙◌}
 use native.Mathlib.Omega.{arith}
-use borrow.Author.Rules.{rules}
 use Rattle.packet.specs.declared.PacketList.TheVariants.{Unlisted}
 use Rattle.packet.proofs.Answers.{list_says, unlisted_faulty, fault_reach}
 use Rattle.packet.proofs.framed.list_framed.Goals as goal

@@ -1,4 +1,3 @@
-use borrow.Author.Rules.{rules}
 use Rattle.packet.proofs.Passes.{framed_sound, message_framed_not, message_on_lem}
 use Rattle.packet.proofs.framed.message_bytes.Goals as goal
 

@@ -1,6 +1,5 @@
 use mathlib.Core.Path.{refl, sym, ap, ◌∙◌}
 use native.Mathlib.Omega.{arith}
-use borrow.Author.Rules.{rules}
 use Rattle.packet.proofs.Answers.{start_reach, message_says, unread_faulty, fault_reach}
 use Rattle.packet.specs.declared.PacketMessage.TheVariants.{Withheld}
 use Rattle.packet.proofs.framed.message_framed.Goals as goal

@@ -1,4 +1,3 @@
-use borrow.Author.Rules.{rules}
 use Rattle.packet.proofs.Answers.{packet_is}
 use Rattle.packet.proofs.framed.packet_in.Goals as goal
 

@@ -1,7 +1,5 @@
 use mathlib.Core.Path.{sym, ap, ◌∙◌}
 use native.Mathlib.Omega.{arith}
-use borrow.Author.Tests.{not-true, not-false}
-use borrow.Author.Rules.{rules}
 use Rattle.body.specs.declared.Checked.TheVariants.{Faulty}
 use Rattle.body.proofs.Counts.{walked_counted, walked_faulty}
 use Rattle.packet.proofs.Answers.{fault_reach, checked_is, pass_carried, pass_counted, pass_faulty}

@@ -1,4 +1,3 @@
-use borrow.Author.Rules.{rules}
 use Rattle.frame.specs.Contents.{contents}
 use Rattle.packet.proofs.Writes.{fit_short, fit_room, fit_faulty}
 use Rattle.packet.proofs.writing.fit.Goals as goal

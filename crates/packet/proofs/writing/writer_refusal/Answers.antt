@@ -1,7 +1,6 @@
 use mathlib.Core.Path.{sym, ap, ◌∙◌}
 use mathlib.Core.Bool.{not}
 use Prim.Native.Nat.{ℕ}
-use borrow.Author.Rules.{rules}
 use Rattle.frame.specs.Table.{first, value_lines}
 use Rattle.packet.specs.Write.{writer_lines, writer_refusal}
 use Rattle.frame.proofs.Frames.{value_numbered}

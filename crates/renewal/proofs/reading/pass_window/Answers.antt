@@ -1,7 +1,5 @@
 use mathlib.Core.Path.{sym, ◌∙◌}
 use native.Mathlib.Omega.{arith}
-use borrow.Author.Tests.{not-true, not-false}
-use borrow.Author.Rules.{rules}
 use Rattle.packet.proofs.Passes.{inside_says, window_ends, pass_in, window_reach, pass_outside, pass_inside}
 use Rattle.renewal.proofs.Passing.{passed_of, barred_of}
 use Rattle.renewal.proofs.reading.pass_window.Goals as goal

@@ -1,6 +1,5 @@
 use mathlib.Core.Path.{◌∙◌}
 use native.Mathlib.Omega.{arith}
-use borrow.Author.Rules.{rules}
 use Rattle.renewal.proofs.Seeking.{from_first, home_own, home_free}
 use Rattle.renewal.proofs.slots.home_of.Goals as goal
 

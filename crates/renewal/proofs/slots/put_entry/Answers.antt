@@ -1,4 +1,3 @@
-use borrow.Author.Rules.{rules}
 use Rattle.frame.specs.Header.{fields_in}
 use Rattle.packet.specs.Read.{packet_in}
 use Rattle.renewal.proofs.slots.put_entry.Goals as goal

@@ -1,10 +1,7 @@
-use mathlib.Core.Path.{◌≡◌, sym, ◌∙◌}
+use mathlib.Core.Path.{sym, ◌∙◌}
 use native.Mathlib.Omega.{arith}
-use Prim.Native.Nat.{◌-◌}
-use lib.ListN.{length}
-use borrow.Author.Rules.{rules}
 use Rattle.renewal.specs.inner.Slots.{suits}
-use Rattle.renewal.proofs.Seeking.{Seeking, seek_first, seek_here, seek_next, seek_end}
+use Rattle.renewal.proofs.Seeking.{seek_first, seek_here, seek_next, seek_end}
 use Rattle.renewal.proofs.slots.seek.Goals as goal
 
 pub loop-k-init : goal.loop-k-init
@@ -17,13 +14,12 @@ returns-then-suits c =
     (sym c.suits.ensures ∙ c.if-suits.true)
 
 pub loop-k-preserved : goal.loop-k-preserved
-loop-k-preserved c =
-    (
-      c.loop-k.invariant.0,
-      c.loop-k.invariant.1,
-      seek_next (suits c.args.wanted) c.args.table.now c.loop-k.invariant.1 c.args.from c.loop-k.k (omega (arith, c.loop-k.invariant.0)) c.loop-k.invariant.2
-          (sym c.suits.ensures ∙ c.if-suits.false),
-    )
+loop-k-preserved c = (
+  c.loop-k.invariant.0,
+  c.loop-k.invariant.1,
+  seek_next (suits c.args.wanted) c.args.table.now c.loop-k.invariant.1 c.args.from c.loop-k.k (omega (arith, c.loop-k.invariant.0)) c.loop-k.invariant.2
+      (sym c.suits.ensures ∙ c.if-suits.false),
+)
 
 pub returns : goal.returns
 returns c =

@@ -1,10 +1,8 @@
-use mathlib.Core.Path.{◌≡◌, sym, ◌∙◌}
-use native.Mathlib.Omega.{arith}
+use mathlib.Core.Path.{◌≡◌}
 use Prim.Native.Nat.{◌-◌}
 use lib.ListN.{length}
-use borrow.Author.Rules.{rules}
 use Rattle.renewal.specs.inner.Slots.{suits}
-use Rattle.renewal.proofs.Seeking.{Seeking, seek_first, seek_here, seek_next, seek_end}
+use Rattle.renewal.proofs.Seeking.{Seeking}
 use Rattle.renewal.proofs.slots.seek.Given as goal
 
 abbrev pub invariant-loop-k : goal.invariant-loop-k

@@ -1,5 +1,4 @@
 use mathlib.Core.Path.{◌∙◌}
-use borrow.Author.Rules.{rules}
 use Rattle.renewal.proofs.Seeking.{from_first}
 use Rattle.renewal.proofs.slots.slot_of.Goals as goal
 

@@ -1,6 +1,5 @@
 use mathlib.Core.Path.{refl}
 use lib.Dec.{eqb}
-use borrow.Author.Rules.{rules}
 use Rattle.renewal.specs.Table.{live, recording_of, place_of, entry}
 use Rattle.renewal.proofs.Seeking.{and_turned}
 use Rattle.renewal.proofs.slots.suits.Goals as goal

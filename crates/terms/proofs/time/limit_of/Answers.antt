@@ -1,5 +1,4 @@
 use Rattle.terms.specs.inner.Masks.{limit_of}
-use borrow.Author.Rules.{rules}
 use Rattle.terms.proofs.time.limit_of.Goals as goal
 
 pub returns-in-Counter : goal.returns-in-Counter

@@ -1,4 +1,3 @@
-use borrow.Author.Rules.{rules}
 use Rattle.terms.proofs.Times.{form_is}
 use Rattle.terms.proofs.time.time_ok.Goals as goal
 
