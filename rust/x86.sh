@@ -6,6 +6,14 @@ x86_root=$(cd "$(dirname "${BASH_SOURCE[0]}")/.." && pwd)
 export CARGO_TARGET_DIR=$x86_root/rust/target CARGO_NET_OFFLINE=true CARGO_BUILD_TARGET=x86_64-unknown-linux-gnu
 x86_built=$CARGO_TARGET_DIR/$CARGO_BUILD_TARGET/release
 
+# What Rattle makes: the library and the listing program.
+x86_library=$x86_root/crates/ch11/out/libch11.a
+x86_listing=$x86_root/crates/listing/out/listing
+
+# Each proves what it makes, and what that stands on. A program is linked where it is run: on its crate's own input, which is small.
+x86_make_library() { (cd "$x86_root/crates/ch11" && rt lib); }
+x86_make_listing() { (cd "$x86_root/crates/listing" && rt run); }
+
 x86_install() {
     DEBIAN_FRONTEND=noninteractive apt-get install -y -qq --no-install-recommends "$@" >/dev/null
 }

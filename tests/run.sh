@@ -24,13 +24,13 @@ says() {
 }
 
 quietly bash tests/prepare.sh
-quietly rt staticlib ch11
-quietly rt check listing
+quietly x86_make_library
+quietly x86_make_listing
 
 echo "C: every field of every call on case L; a withdrawn packet's story"
 mkdir -p target/c
 for source in tests/c/case_l.c tests/c/story.c examples/c/channels.c; do
-    quietly $x86_cc -std=c11 -Wall -Wextra -Werror -pedantic -I include "$source" target/staticlib/libch11.a -o "target/c/$(basename "$source" .c)"
+    quietly $x86_cc -std=c11 -Wall -Wextra -Werror -pedantic -I include "$source" "$x86_library" -o "target/c/$(basename "$source" .c)"
 done
 says 'case L: all fields right' $x86_runner target/c/case_l
 other='live: slot 0, place 700000000000, bytes as read'
@@ -41,7 +41,7 @@ says 'refused with 13 at byte 156 of the recording' bash -c "! $x86_runner targe
 
 echo "Stack: each call, worked out and painted, held to docs/CALLS.md"
 quietly x86_host_cargo test --release --quiet --manifest-path rust/Cargo.toml -p stack
-bash tests/stack.sh target/staticlib/libch11.a
+bash tests/stack.sh "$x86_library"
 
 echo "The samples, listed as samples/README.md says"
 while read -r sample last; do
@@ -77,4 +77,4 @@ quietly $x86_runner "$x86_built/bench" 1 'a trial'
 echo "Benchmark: instructions, held to docs/BENCH.md"
 bash bench/count.sh
 echo "Comparison with the second program: listings"
-x86_host_cargo run --release --quiet -p listings -- 300 $x86_runner ../target/bin/listing
+x86_host_cargo run --release --quiet -p listings -- 300 $x86_runner "$x86_listing"

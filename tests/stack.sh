@@ -3,20 +3,20 @@
 # (tests/c/painted.c). Prints the table that docs/CALLS.md has. Fails where a call passes 1 KiB, half of what the smallest user has (02 §3);
 # where the library calls anything outside itself; where the painted stack was written further down than was worked out, or holds a copy
 # of lent bytes; where a function below the C interface has an array of its own; and where the document's table is another.
-# Usage: bash tests/stack.sh [LIBRARY]: without it, proves and builds target/staticlib/libch11.a first. Installs what it needs.
+# Usage: bash tests/stack.sh [LIBRARY]: without it, proves and builds crates/ch11/out/libch11.a first. Installs what it needs.
 set -euo pipefail
 cd "$(dirname "$0")/.."
 # shellcheck source=rust/x86.sh
 source rust/x86.sh
 limit=1024
-library=${1:-target/staticlib/libch11.a}
+library=${1:-$x86_library}
 room=$(mktemp -d)
 trap 'rm -rf "$room"' EXIT
 faults=0
 fault() { echo "stack: $*" >&2 && faults=1; }
 
 x86_tools
-[ $# -gt 0 ] || rt staticlib ch11 >"$room/log" 2>&1 </dev/null || { cat "$room/log" >&2; exit 1; }
+[ $# -gt 0 ] || x86_make_library >"$room/log" 2>&1 </dev/null || { cat "$room/log" >&2; exit 1; }
 
 # The source: what is lent is read where it is. (The compiler takes small copies out again, so that its code would not show them.) With the types of
 # slices left out, an array shows by a semicolon in brackets, or by a bracket that follows no name. None are a constant of at most 8 bytes, and of the

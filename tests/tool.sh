@@ -34,7 +34,7 @@ for kind in uart mixed; do
 done
 for sample in samples/flight.ch11:0 samples/cut.ch11:1 samples/altered.ch11:1 "$scratch/uart:0" "$scratch/mixed:1"; do
     file=${sample%:*}
-    $x86_runner target/bin/listing <"$file" >"$scratch/listing"
+    $x86_runner "$x86_listing" <"$file" >"$scratch/listing"
     for window in '' 1 3 24 41 100 997; do
         status "${sample#*:}" list ${window:+--window "$window"} "$file"
         cmp "$scratch/listing" "$scratch/out" || fail "another listing of $file, window ${window:-as it is}"

@@ -1,4 +1,4 @@
-//! Finds libch11.a: in the folder that CH11_LIB_DIR names, or where `rt staticlib ch11` puts it in this repository.
+//! Finds libch11.a: in the folder that CH11_LIB_DIR names, or where `rt lib` in crates/ch11 puts it.
 use std::env;
 use std::path::PathBuf;
 
@@ -7,7 +7,7 @@ fn main() {
     let folder = match env::var_os("CH11_LIB_DIR") {
         Some(folder) => PathBuf::from(folder),
         None => PathBuf::from(env::var_os("CARGO_MANIFEST_DIR").expect("cargo sets it"))
-            .join("../../target/staticlib"),
+            .join("../../crates/ch11/out"),
     };
     if env::var_os("CARGO_CFG_TARGET_ARCH").as_deref() != Some("x86_64".as_ref()) {
         println!(
@@ -18,7 +18,7 @@ fn main() {
     println!("cargo:rerun-if-changed={}", library.display());
     if !library.exists() {
         panic!(
-            "{} is not there: make it by `rt staticlib ch11`, or name its folder in CH11_LIB_DIR",
+            "{} is not there: make it by `rt lib` in crates/ch11, or name its folder in CH11_LIB_DIR",
             library.display()
         );
     }
