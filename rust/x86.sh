@@ -50,8 +50,8 @@ if [ "$(uname -m)" = x86_64 ]; then
 else
     x86_cc=x86_64-linux-gnu-gcc
     x86_objdump=x86_64-linux-gnu-objdump
-    x86_runner=qemu-x86_64
-    export CARGO_TARGET_X86_64_UNKNOWN_LINUX_GNU_LINKER=$x86_cc CARGO_TARGET_X86_64_UNKNOWN_LINUX_GNU_RUNNER=$x86_runner
+    x86_runner="qemu-x86_64 -cpu max"
+    export CARGO_TARGET_X86_64_UNKNOWN_LINUX_GNU_LINKER=$x86_cc CARGO_TARGET_X86_64_UNKNOWN_LINUX_GNU_RUNNER="$x86_runner"
     x86_tools() {
         local packages=(cargo rustc libstd-rust-dev:amd64 gcc-x86-64-linux-gnu libc6-dev-amd64-cross qemu-user libc6:amd64)
         local there
