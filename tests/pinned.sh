@@ -14,7 +14,7 @@ for edit in "$@"; do
     name=$(basename "$edit" .edit)
     copy=$room/$name
     mkdir "$copy"
-    (cd "$top" && cp -a crates crates.txt "$copy" && { [ ! -d target ] || cp -a target "$copy"; })
+    (cd "$top" && tar -c --exclude='crates/*/out' crates crates.txt) | tar -x -C "$copy"
     expected=$(sed -n 's/^refused: //p' "$edit")
     if ! python3 - "$edit" "$copy" <<'P'; then echo "$name: BAD EDIT"; failed=1; continue; fi
 import sys
@@ -32,13 +32,17 @@ for line in open(edit, encoding='utf-8'):
             sys.exit(f'{path}: {text.count(old)} times: {old}')
         open(path, 'w', encoding='utf-8').write(text.replace('\n' + old + '\n', '\n' + line[5:].replace('\\n', '\n') + '\n'))
 P
-    (cd "$copy" && rt check "$expected") >"$copy/out" 2>&1 || true
-    if grep -q '^rt: ok' "$copy/out"; then
+    # A check in the crate's folder checks those below it first, and ends at the first that is refused.
+    if (cd "$copy/crates/$expected" && rt check) >"$copy/out" 2>&1 </dev/null; then
         found=none
+    elif lower=$(grep -oE '^rt: the library [a-z0-9_]+ did not build' "$copy/out"); then
+        found=$(cut -d' ' -f4 <<<"$lower")
+    elif grep -q '^logic=not-proved' "$copy/out"; then
+        found=$expected
     else
-        found=$(grep -oE '^rt: [a-z0-9_]+ (NOT|not) ' "$copy/out" | head -n 1 | cut -d' ' -f2)
+        found=
     fi
-    first=$(grep -E ': error' "$copy/out" | head -n 1 | sed "s|$copy/||" | cut -c1-200) || true
+    first=$(grep -E ': error|^fn .*: (not proved|no proof)' "$copy/out" | head -n 1 | cut -c1-200) || true
     if [ "$found" = "$expected" ]; then
         echo "$name: refused in $found: $first"
     else
