@@ -13,11 +13,11 @@ for patch in "$@"; do
     copy=$room/$name
     mkdir "$copy"
     (cd "$top" && tar -c --exclude='crates/*/out' crates crates.txt docs include rust samples tests) | tar -x -C "$copy"
-    # In its folder, so that the crates below are proved first. Their kept work has copies of the sources, which are no part of what is refused.
-    if ! (cd "$copy" && git apply - && (cd crates/ch11 && rt lib </dev/null) && mv crates/ch11/out/libch11.a . && rm -rf crates/*/out) <"$patch" >"$copy/out" 2>&1; then
+    # In its folder, so that the crates below are proved first.
+    if ! (cd "$copy" && git apply - && cd crates/ch11 && rt lib </dev/null) <"$patch" >"$copy/out" 2>&1; then
         echo "$name: NOT BUILT: $(tail -n 1 "$copy/out")"
         failed=1
-    elif (cd "$copy" && bash tests/stack.sh libch11.a) >"$copy/out" 2>&1; then
+    elif (cd "$copy" && bash tests/stack.sh crates/ch11/out/libch11.a) >"$copy/out" 2>&1; then
         echo "$name: NOT REFUSED"
         failed=1
     elif ! grep -q '^refused: ' "$patch"; then
