@@ -10,9 +10,9 @@ x86_built=$CARGO_TARGET_DIR/$CARGO_BUILD_TARGET/release
 x86_library=$x86_root/crates/ch11/out/libch11.a
 x86_listing=$x86_root/crates/listing/out/listing
 
-# Each proves what it makes, and what that stands on. A program is linked where it is run: on its crate's own input, which is small.
-x86_make_library() { (cd "$x86_root/crates/ch11" && rt lib); }
-x86_make_listing() { (cd "$x86_root/crates/listing" && rt run); }
+# Each proves what it makes, and what that stands on, and compiles it for every x86-64. A program is linked where it is run: here on nothing.
+x86_make_library() { (cd "$x86_root/crates/ch11" && rt lib --cpu=x86-64); }
+x86_make_listing() { (cd "$x86_root/crates/listing" && rt run --cpu=x86-64 </dev/null); }
 
 x86_install() {
     DEBIAN_FRONTEND=noninteractive apt-get install -y -qq --no-install-recommends "$@" >/dev/null
@@ -50,8 +50,8 @@ if [ "$(uname -m)" = x86_64 ]; then
 else
     x86_cc=x86_64-linux-gnu-gcc
     x86_objdump=x86_64-linux-gnu-objdump
-    x86_runner="qemu-x86_64 -cpu max"
-    export CARGO_TARGET_X86_64_UNKNOWN_LINUX_GNU_LINKER=$x86_cc CARGO_TARGET_X86_64_UNKNOWN_LINUX_GNU_RUNNER="$x86_runner"
+    x86_runner=qemu-x86_64
+    export CARGO_TARGET_X86_64_UNKNOWN_LINUX_GNU_LINKER=$x86_cc CARGO_TARGET_X86_64_UNKNOWN_LINUX_GNU_RUNNER=$x86_runner
     x86_tools() {
         local packages=(cargo rustc libstd-rust-dev:amd64 gcc-x86-64-linux-gnu libc6-dev-amd64-cross qemu-user libc6:amd64)
         local there

@@ -14,7 +14,7 @@ for patch in "$@"; do
     mkdir "$copy"
     (cd "$top" && tar -c --exclude='crates/*/out' crates crates.txt docs include rust samples tests) | tar -x -C "$copy"
     # In its folder, so that the crates below are proved first.
-    if ! (cd "$copy" && git apply - && cd crates/ch11 && rt lib </dev/null) <"$patch" >"$copy/out" 2>&1; then
+    if ! (cd "$copy" && git apply - && cd crates/ch11 && rt lib --cpu=x86-64 </dev/null) <"$patch" >"$copy/out" 2>&1; then
         echo "$name: NOT BUILT: $(tail -n 1 "$copy/out")"
         failed=1
     elif (cd "$copy" && bash tests/stack.sh crates/ch11/out/libch11.a) >"$copy/out" 2>&1; then

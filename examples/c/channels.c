@@ -1,6 +1,6 @@
 /* Prints the channel of each packet in a file.
  *
- *     cc -I include examples/c/channels.c target/staticlib/libch11.a -o channels && ./channels FILE
+ *     cc -I include examples/c/channels.c crates/ch11/out/libch11.a -o channels && ./channels FILE
  */
 #include <stdio.h>
 #include <stdlib.h>

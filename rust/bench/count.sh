@@ -16,9 +16,8 @@ case $mode in
     --own) rust=own ;;
     *) echo "count.sh: no option $mode" >&2 && exit 2 ;;
 esac
-# Counts are those of the plain build, whatever flags its user has set, for the processor that the kit compiles the library for.
-unset CARGO_ENCODED_RUSTFLAGS RUSTC_WRAPPER
-export RUSTFLAGS='-C target-cpu=x86-64-v2'
+# Counts are those of the plain build, whatever flags its user has set.
+unset RUSTFLAGS CARGO_ENCODED_RUSTFLAGS RUSTC_WRAPPER
 
 # Builds the program with these options of cargo in a folder of its own.
 built() {
@@ -34,10 +33,9 @@ plugin=$CARGO_TARGET_DIR/libcount.so
 cc -O2 -shared -fPIC count.c -o "$plugin"
 document=$x86_root/docs/BENCH.md
 
-# A plain x86-64-v2. For the emulator's own choice of processor libc copies by `rep movsb`, of which each byte would count.
-processor=qemu64,+ssse3,+sse4.1,+sse4.2,+popcnt
+# A plain x86-64. For the emulator's own choice of processor libc copies by `rep movsb`, of which each byte would count.
 emulate() {
-    qemu-x86_64 -cpu $processor "$@"
+    qemu-x86_64 -cpu qemu64 "$@"
 }
 
 # All instructions of a program when it makes so many passes over an input on a side; the plugin prints them behind everything else.
@@ -170,7 +168,7 @@ if [ "$mode" = --markdown ]; then
     exit
 fi
 echo "Rust by $(emulate "$bench" compiler)"
-echo "counted by $(qemu-x86_64 --version | head -1), processor $processor"
+echo "counted by $(qemu-x86_64 --version | head -1), processor qemu64"
 echo "instructions of one pass; ratios = library / Rust, left to the compiler and inlined"
 echo
 format='%-16s %10s %10s %6s %10s %6s %9s %9s %9s\n'

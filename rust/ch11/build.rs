@@ -1,4 +1,4 @@
-//! Finds libch11.a: in the folder that CH11_LIB_DIR names, or where `rt lib` in crates/ch11 puts it.
+//! Finds libch11.a: in the folder that CH11_LIB_DIR names, or where `rt lib --cpu=x86-64` in crates/ch11 puts it.
 use std::env;
 use std::path::PathBuf;
 
@@ -18,7 +18,7 @@ fn main() {
     println!("cargo:rerun-if-changed={}", library.display());
     if !library.exists() {
         panic!(
-            "{} is not there: make it by `rt lib` in crates/ch11, or name its folder in CH11_LIB_DIR",
+            "{} is not there: make it by `rt lib --cpu=x86-64` in crates/ch11, or name its folder in CH11_LIB_DIR",
             library.display()
         );
     }

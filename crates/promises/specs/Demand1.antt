@@ -33,7 +33,7 @@ pub record ListKept (r : PacketList) (values : ℕ → ℕ) (old : List ℕ) : T
 
 pub record Demand1 : Type 0 where
   -- "A read names a start and a filled end in a buffer. For every input it ends with a packet or one refusal from the table, number
-  -- and place fixed." Which number: Document01.read-first; where, and why (document 02 §2): read_placed, fault_exactly, placed_once.
+  -- and place fixed." Which number: Document01.read_first; where, and why (document 02 §2): read_placed, fault_exactly, placed_once.
 
   -- the reader: a packet, or one of the reader's refusals, its place and its reason
   pub read_ends : (buf : List ℕ) (start end base : ℕ) → Ends reader_refusals read_told zero_packet (packet_told (read_packet buf start end base))

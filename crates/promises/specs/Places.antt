@@ -1,5 +1,5 @@
 -- Places in the recording (document 02 §9), sentence by sentence; proved in proofs/Places.antt (places). That the rest of a refusal or a packet is as
--- without a base: its number Document01.read-first, its place and reason Demand1.read_placed, its fields and parts Demand2.packet_there.
+-- without a base: its number Document01.read_first, its place and reason Demand1.read_placed, its fields and parts Demand2.packet_there.
 use Rattle.std.specs.Prelude.{◌≡◌, List, [], ◌∷◌, ◌≢◌, ℕ, ◌+◌, ◌<◌, length, take, get_or}
 use Rattle.terms.specs.declared.Refusal.{Refusal}
 use Rattle.terms.specs.Refusals.{no_refusal}
