@@ -1,4 +1,5 @@
 -- The reader's test of a channel word says what document 01 says of it.
+use Rattle.std.specs.Prelude.{Option, Some, None}
 use mathlib.Core.Path.{◌≡◌, refl, ◌∙◌, subst}
 use mathlib.Core.List.{List}
 use mathlib.Core.Bool.{Bool, true, false, not, ◌&&◌, false≢true}
@@ -12,13 +13,14 @@ use Rattle.units.specs.Units.{field}
 use Rattle.units.specs.Choice.{pick}
 use Rattle.units.proofs.Choices.{picked, passed, or_true, and_true}
 use Rattle.terms.specs.declared.TimeRule.{TimeRule}
-use Rattle.body.specs.Walk.{opens, counter_ok, message_shape, uart_shape, shape_by, open_body}
+use Rattle.body.specs.Walk.{opens, counter_ok, message_shape, uart_shape, shape_by, open_body, Opened, Carried, Shaped, Wrong}
 use Rattle.body.specs.Layout.{OpenedType, Asked, exactly, to_the_end, ChannelWord, many, single, segment, timed, untimed}
+use Rattle.body.specs.Kinds.{type_of}
+use Rattle.body.specs.declared.Kind.{Kind}
+use Rattle.body.specs.declared.Kind.TheVariants.{Message, Uart}
 use Rattle.body.specs.declared.Form.{Form}
 use Rattle.body.specs.declared.Form.TheVariants.{Stamped, Plain}
 use Rattle.body.specs.declared.Shape.{Shape}
-use Rattle.body.specs.declared.Opened.{Opened}
-use Rattle.body.specs.declared.Opened.TheVariants.{Carried, Shaped, Wrong}
 
 -- the types that are opened
 pub opens_exactly : (kind : ℕ) → (opens kind ≡ true) ↔ OpenedType kind
@@ -31,6 +33,10 @@ opens_exactly kind = (
     made (inl e) = rw e
     made (inr e) = rw e
 
+pub type_opens : (kind : Kind) → opens (type_of kind) ≡ true
+type_opens Message = refl
+type_opens Uart = refl
+
 -- and those that are not
 pub carries : (kind : ℕ) → ¬ OpenedType kind → opens kind ≡ false
 carries kind other = go (opens kind) refl
@@ -41,16 +47,12 @@ carries kind other = go (opens kind) refl
 
 -- ---- what a channel word says, as the walk's shape
 
-abbrev pub counted_by : Asked → Bool
-counted_by (exactly count) = true
-counted_by to_the_end = false
-
-abbrev pub count_by : Asked → ℕ
-count_by (exactly count) = count
-count_by to_the_end = 0
+abbrev pub count_by : Asked → Option ℕ
+count_by (exactly count) = Some count
+count_by to_the_end = None
 
 abbrev pub shape_of : Form → Asked → TimeRule → Shape
-shape_of form asked rule = record { form = form; counted = counted_by asked; count = count_by asked; rule = rule }
+shape_of form asked rule = record { form = form; count = count_by asked; rule = rule }
 
 -- a channel word is right, and says this shape
 abbrev Says : ℕ → TimeRule → ℕ → Shape → Type 0
@@ -64,7 +66,7 @@ module _ (kind : ℕ) (rule : TimeRule) (word : ℕ) (message : kind ≡ 0x30) w
   some_counted (suc counter) e = omega arith
 
   counted_says : (bits : ℕ) → word / 2 ^ 16 ≡ bits → word < 2 ^ 18 → counter_ok bits (word % 2 ^ 16) ≡ true
-      → Says kind rule word (record { form = Stamped; counted = true; count = pick (eqb bits 0) (word % 2 ^ 16) 1; rule = rule })
+      → Says kind rule word (record { form = Stamped; count = Some (pick (eqb bits 0) (word % 2 ^ 16) 1); rule = rule })
   counted_says zero b small ok = (exactly (word % 2 ^ 16), many message small b (some_counted (word % 2 ^ 16) ok), refl)
   counted_says (suc zero) b small ok =
       let one : word % 2 ^ 16 ≡ 1 = ⊎_elim (eqb-true (word % 2 ^ 16) 1) (λ h. absurd (false≢true h)) (or_true (eqb (word % 2 ^ 16) 1) false ok) in
@@ -80,7 +82,7 @@ module _ (kind : ℕ) (rule : TimeRule) (word : ℕ) (message : kind ≡ 0x30) w
   message_says : (sh : Shape) → message_shape rule word ≡ Shaped sh → Says kind rule word sh
   unfolding message_shape
   message_says sh e =
-      let as_is : Shape = record { form = Stamped; counted = true; count = pick (eqb (word / 2 ^ 16) 0) (word % 2 ^ 16) 1; rule = rule } in
+      let as_is : Shape = record { form = Stamped; count = Some (pick (eqb (word / 2 ^ 16) 0) (word % 2 ^ 16) 1); rule = rule } in
       let p =
       picked (ltb word (2 ^ 18) && counter_ok (word / 2 ^ 16) (word % 2 ^ 16)) (Shaped as_is) Wrong (Shaped sh)
       (λ q. let z : ◌≡◌ {A = ℕ} 0 1 = cc in omega arith) e in
@@ -91,7 +93,7 @@ module _ (kind : ℕ) (rule : TimeRule) (word : ℕ) (message : kind ≡ 0x30) w
 -- a counter that its type, `bits`, takes
 module _ (rule : TimeRule) (word bits : ℕ) (is : word / 2 ^ 16 ≡ bits) (small : word < 2 ^ 18) where
   shaped_by : counter_ok bits (word % 2 ^ 16) ≡ true
-      → message_shape rule word ≡ Shaped (record { form = Stamped; counted = true; count = pick (eqb bits 0) (word % 2 ^ 16) 1; rule = rule })
+      → message_shape rule word ≡ Shaped (record { form = Stamped; count = Some (pick (eqb bits 0) (word % 2 ^ 16) 1); rule = rule })
   unfolding message_shape
   shaped_by ok = rw (lt-ltb word (2 ^ 18) small, is, ok)
 
@@ -116,13 +118,13 @@ message_segment rule word bits b small two more =
 uart_says : (kind : ℕ) (rule : TimeRule) (word : ℕ) (sh : Shape) → kind ≡ 0x50 → uart_shape rule word ≡ Shaped sh → Says kind rule word sh
 unfolding uart_shape
 uart_says kind rule word sh uart e =
-    let as_is : Shape = record { form = pick (leb (2 ^ 31) word) Stamped Plain; counted = false; count = 0; rule = rule } in
+    let as_is : Shape = record { form = pick (leb (2 ^ 31) word) Stamped Plain; count = None; rule = rule } in
     let p = picked (eqb (word % 2 ^ 31) 0) (Shaped as_is) Wrong (Shaped sh) (λ q. let z : ◌≡◌ {A = ℕ} 0 1 = cc in omega arith) e in
     let is : as_is ≡ sh = cc p.1 in
     subst (Says kind rule word) is (go (leb (2 ^ 31) word) refl (eqb-true (word % 2 ^ 31) 0 p.0))
   where
     go : (t : Bool) → leb (2 ^ 31) word ≡ t → word % 2 ^ 31 ≡ 0
-        → Says kind rule word (record { form = pick t Stamped Plain; counted = false; count = 0; rule = rule })
+        → Says kind rule word (record { form = pick t Stamped Plain; count = None; rule = rule })
     go true t low = (to_the_end, timed uart low (leb-true (2 ^ 31) word t), refl)
     go false t low = (to_the_end, untimed uart low (leb-false (2 ^ 31) word t), refl)
 

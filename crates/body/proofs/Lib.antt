@@ -7,3 +7,4 @@ pub mod Bounds
 pub mod Steps
 pub mod Counts
 pub mod ChannelWords
+pub mod Heads

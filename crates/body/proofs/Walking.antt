@@ -1,4 +1,5 @@
 -- Laws of a block and of the walk, on plain values.
+use Rattle.std.specs.Prelude.{Result, Ok, Err}
 use mathlib.Core.Path.{◌≡◌, refl, sym, ap, ◌∙◌}
 use mathlib.Core.List.{List}
 use mathlib.Core.Bool.{Bool, true, false, not}
@@ -7,27 +8,25 @@ use native.Mathlib.Omega.{arith}
 use native.Mathlib.Numerals.{add-one}
 use lib.ListN.{length}
 use lib.Dec.{ltb, leb, eqb}
-use borrow.Author.Tests.{ltb-false, eqb-false, not-false, lt-leb, lt-ltb, le-ltb, eq-eqb, ne_eqb}
+use borrow.Author.Tests.{ltb-false, eqb-false, not-false, lt-leb, le-ltb, eq-eqb, ne_eqb}
 use Rattle.units.specs.Units.{part, field, zeros}
 use Rattle.units.specs.Choice.{pick}
 use Rattle.units.proofs.Choices.{passed}
 use Rattle.terms.specs.Times.{time_ok}
-use Rattle.body.specs.Walk.{opens, shape_by, open_body, stamp_length, head_at, block_end, judge, block_at, spot, stop_at, ending, after, walk_from, walk}
+use Rattle.body.specs.Walk.{opens, shape_by, open_body, stamp_length, head_at, block_end, judge, block_at, spot, stop_at, ending, after, walk_from, walk, Opened, Carried, Shaped, Wrong}
 use Rattle.terms.specs.Refusals.{fault}
 use Rattle.terms.specs.declared.TimeRule.{TimeRule}
 use Rattle.terms.specs.declared.Refusal.{Refusal}
 use Rattle.body.specs.declared.Shape.{Shape}
-use Rattle.body.specs.declared.Opened.{Opened}
-use Rattle.body.specs.declared.Opened.TheVariants.{Carried, Shaped, Wrong}
 use Rattle.body.specs.declared.Message.{Message}
-use Rattle.body.specs.declared.Block.{Block}
-use Rattle.body.specs.declared.Block.TheVariants.{Found, Broken}
-use Rattle.body.specs.declared.Checked.TheVariants.{Counted, Faulty}
 
 -- ---- one block
 
-broken_found : (f : Refusal) (m : Message) (next : ℕ) → Broken f ≡ Found m next → ⊥
+broken_found : (f : Refusal) (m : Message) (next : ℕ) → ◌≡◌ {A = Result (Message × ℕ) Refusal} (Err f) (Ok (m, next)) → ⊥
 broken_found f m next e = let z : ◌≡◌ {A = ℕ} 0 1 = cc in omega arith
+
+found_same : (x y : Message × ℕ) → ◌≡◌ {A = Result (Message × ℕ) Refusal} (Ok x) (Ok y) → x ≡ y
+found_same x y e = cc e
 
 -- what a block that is found stands on
 pub record Stands (sh : Shape) (bs : List ℕ) (at : ℕ) (m : Message) (next : ℕ) : Type 0 where
@@ -39,7 +38,7 @@ pub record Stands (sh : Shape) (bs : List ℕ) (at : ℕ) (m : Message) (next : 
   pub some : 0 < m.length
   pub pad : zeros (part bs (m.start + m.length) (m.length % 2)) ≡ true
 
-pub found_stands : (sh : Shape) (bs : List ℕ) (at : ℕ) (m : Message) (next : ℕ) → block_at sh bs at ≡ Found m next → Stands sh bs at m next
+pub found_stands : (sh : Shape) (bs : List ℕ) (at : ℕ) (m : Message) (next : ℕ) → block_at sh bs at ≡ Ok (m, next) → Stands sh bs at m next
 unfolding block_at judge
 found_stands sh bs at m next e =
     let h = head_at sh.form bs at in
@@ -50,8 +49,9 @@ found_stands sh bs at m next e =
     let p₃ = passed (not (time_ok sh.rule h.time)) _ _ _ (broken_found _ m next) p₂.1 in
     let p₄ = passed (eqb h.length 0) _ _ _ (broken_found _ m next) p₃.1 in
     let p₅ = passed (not pad) _ _ _ (broken_found _ m next) p₄.1 in
-    let is : h ≡ m = cc p₅.1 in
-    let n : block_end h ≡ next = cc p₅.1 in
+    let found = found_same _ _ p₅.1 in
+    let is : h ≡ m = ap (λ (p : Message × ℕ). p.0) found in
+    let n : block_end h ≡ next = ap (λ (p : Message × ℕ). p.1) found in
     let some : eqb h.length 0 ≡ false = p₄.0 in
     record {
       head = ltb-false (length bs) (at + stamp_length sh.form + 4) p₁.0;
@@ -66,7 +66,7 @@ found_stands sh bs at m next e =
     above : (n : ℕ) → eqb n 0 ≡ false → 0 < n
     above n e = omega (arith, eqb-false n 0 e)
 
-pub stands_found : (sh : Shape) (bs : List ℕ) (at : ℕ) (m : Message) (next : ℕ) → Stands sh bs at m next → block_at sh bs at ≡ Found m next
+pub stands_found : (sh : Shape) (bs : List ℕ) (at : ℕ) (m : Message) (next : ℕ) → Stands sh bs at m next → block_at sh bs at ≡ Ok (m, next)
 unfolding block_at judge
 stands_found sh bs at m next s =
     let f : block_end m ≤ length bs = omega (arith, s.next_is, s.fits) in
@@ -81,33 +81,10 @@ stands_found sh bs at m next s =
       s.next_is,
     ))
 
--- a head by its tests in their order, as the code makes them; next is the place behind the block
-module _ (rule : TimeRule) (bs : List ℕ) (at : ℕ) (m : Message) (next : ℕ) (is : next ≡ block_end m) where
-  pub judge_short : length bs < next → Broken (fault at 2) ≡ judge rule bs at m
-  unfolding judge
-  judge_short h = simp (lt-ltb (length bs) (block_end m) (omega (arith, is)))
-
-  pub judge_time : next ≤ length bs → time_ok rule m.time ≡ false → Broken (fault at 3) ≡ judge rule bs at m
-  unfolding judge
-  judge_time h t = simp (le-ltb (length bs) (block_end m) (omega (arith, is)), t)
-
-  pub judge_empty : next ≤ length bs → time_ok rule m.time ≡ true → m.length ≡ 0 → Broken (fault at 4) ≡ judge rule bs at m
-  unfolding judge
-  judge_empty h t e = simp (le-ltb (length bs) (block_end m) (omega (arith, is)), t, eq-eqb m.length 0 e)
-
-  pub judge_pad : (z : Bool) → next ≤ length bs → time_ok rule m.time ≡ true → (m.length ≡ 0 → ⊥)
-      → zeros (part bs (m.start + m.length) (next - (m.start + m.length))) ≡ z
-      → pick (not z) (Broken (fault at 5)) (Found m next) ≡ judge rule bs at m
-  unfolding judge
-  judge_pad z h t some pad =
-      let l : next - (m.start + m.length) ≡ m.length % 2 = omega (arith, is) in
-      let pad-is : zeros (part bs (m.start + m.length) (m.length % 2)) ≡ z = rw l at pad in
-      rw is (simp (le-ltb (length bs) (block_end m) (omega (arith, is)), t, ne_eqb m.length 0 some, pad-is))
-
 -- ---- the walk
 
 -- a block that is found ends within the body, behind its start
-pub found_next : (sh : Shape) (bs : List ℕ) (at : ℕ) (m : Message) (next : ℕ) → block_at sh bs at ≡ Found m next → (at < next) × (next ≤ length bs)
+pub found_next : (sh : Shape) (bs : List ℕ) (at : ℕ) (m : Message) (next : ℕ) → block_at sh bs at ≡ Ok (m, next) → (at < next) × (next ≤ length bs)
 unfolding head_at
 found_next sh bs at m next e =
     let s = found_stands sh bs at m next e in
@@ -121,7 +98,7 @@ pub walking_first : (sh : Shape) (bs : List ℕ) → 4 ≤ length bs → Walking
 unfolding spot
 walking_first sh bs h = (refl, omega arith, h)
 
-pub walking_next : (sh : Shape) (bs : List ℕ) (k at : ℕ) (m : Message) (next : ℕ) → Walking sh bs k at → block_at sh bs at ≡ Found m next
+pub walking_next : (sh : Shape) (bs : List ℕ) (k at : ℕ) (m : Message) (next : ℕ) → Walking sh bs k at → block_at sh bs at ≡ Ok (m, next)
     → Walking sh bs (k + 1) next
 unfolding spot
 walking_next sh bs k at m next w e =
@@ -139,10 +116,10 @@ module _ (sh : Shape) (bs : List ℕ) (f k at : ℕ) (is : at ≡ spot sh bs k) 
   pub walk_stop : stop_at sh (length bs) k at ≡ true → walk_from sh bs f k ≡ ending (length bs) k at
   walk_stop s = turn sh bs f k at is pos ∙ rw s refl
 
-  pub walk_broken : (r : Refusal) → stop_at sh (length bs) k at ≡ false → block_at sh bs at ≡ Broken r → walk_from sh bs f k ≡ Faulty r
+  pub walk_broken : (r : Refusal) → stop_at sh (length bs) k at ≡ false → block_at sh bs at ≡ Err r → walk_from sh bs f k ≡ Err r
   walk_broken r s e = turn sh bs f k at is pos ∙ rw (s, e) refl
 
-  pub walk_found : (m : Message) (next : ℕ) → stop_at sh (length bs) k at ≡ false → block_at sh bs at ≡ Found m next
+  pub walk_found : (m : Message) (next : ℕ) → stop_at sh (length bs) k at ≡ false → block_at sh bs at ≡ Ok (m, next)
       → walk_from sh bs f k ≡ walk_from sh bs (f - 1) (k + 1)
   walk_found m next s e = turn sh bs f k at is pos ∙ rw (s, e) refl
 
@@ -158,19 +135,19 @@ module _ (sh : Shape) (bs : List ℕ) (k at : ℕ) (now : Counting sh bs k at) w
   pub counting_stop : stop_at sh (length bs) k at ≡ true → walk sh bs ≡ ending (length bs) k at
   counting_stop s = now.1 ∙ walk_stop sh bs _ k at now.0.0 (omega arith) s
 
-  pub counting_broken : (r : Refusal) → stop_at sh (length bs) k at ≡ false → block_at sh bs at ≡ Broken r → walk sh bs ≡ Faulty r
+  pub counting_broken : (r : Refusal) → stop_at sh (length bs) k at ≡ false → block_at sh bs at ≡ Err r → walk sh bs ≡ Err r
   counting_broken r s e = now.1 ∙ walk_broken sh bs _ k at now.0.0 (omega arith) r s e
 
-  pub counting_next : (m : Message) (next : ℕ) → stop_at sh (length bs) k at ≡ false → block_at sh bs at ≡ Found m next → Counting sh bs (k + 1) next
+  pub counting_next : (m : Message) (next : ℕ) → stop_at sh (length bs) k at ≡ false → block_at sh bs at ≡ Ok (m, next) → Counting sh bs (k + 1) next
   counting_next m next s e =
       let f : length bs + 1 - k - 1 ≡ length bs + 1 - (k + 1) = omega arith in
       (walking_next sh bs k at m next now.0 e, now.1 ∙ walk_found sh bs _ k at now.0.0 (omega arith) m next s e ∙ rw f refl)
 
-pub ending_exact : (len k at : ℕ) → at ≡ len → ending len k at ≡ Counted k
+pub ending_exact : (len k at : ℕ) → at ≡ len → ending len k at ≡ Ok k
 unfolding ending
 ending_exact len k at e = rw (eq-eqb at len e)
 
-pub ending_over : (len k at : ℕ) → (at ≡ len → ⊥) → ending len k at ≡ Faulty (fault at 6)
+pub ending_over : (len k at : ℕ) → (at ≡ len → ⊥) → ending len k at ≡ Err (fault at 6)
 unfolding ending
 ending_over len k at e = rw (ne_eqb at len e)
 
@@ -183,13 +160,13 @@ walk_enough sh bs (suc f) (suc g) k at w hf hg =
     go (stop_at sh (length bs) k at) refl (block_at sh bs at) refl
     (λ next v. walk_enough sh bs f g (k + 1) next v (omega arith) (omega arith))
   where
-    go : (b : Bool) → stop_at sh (length bs) k at ≡ b → (x : Block) → block_at sh bs at ≡ x
+    go : (b : Bool) → stop_at sh (length bs) k at ≡ b → (x : Result (Message × ℕ) Refusal) → block_at sh bs at ≡ x
         → ((next : ℕ) → Walking sh bs (k + 1) next → walk_from sh bs f (k + 1) ≡ walk_from sh bs g (k + 1))
         → walk_from sh bs (suc f) k ≡ walk_from sh bs (suc g) k
     go true s x e rest = walk_stop sh bs (suc f) k at w.0 (omega arith) s ∙ sym (walk_stop sh bs (suc g) k at w.0 (omega arith) s)
-    go false s (Broken r) e rest =
+    go false s (Err r) e rest =
         walk_broken sh bs (suc f) k at w.0 (omega arith) r s e ∙ sym (walk_broken sh bs (suc g) k at w.0 (omega arith) r s e)
-    go false s (Found m next) e rest =
+    go false s (Ok (m, next)) e rest =
         let pf : suc f - 1 ≡ f = omega arith in
         let pg : suc g - 1 ≡ g = omega arith in
         let a = walk_found sh bs (suc f) k at w.0 (omega arith) m next s e in

@@ -1,7 +1,8 @@
 -- The walk and the blocks: what is laid out in blocks is walked, and what is walked is laid out in blocks.
+use Rattle.std.specs.Prelude.{Option, Some, None, Result, Ok, Err}
 use mathlib.Core.Path.{◌≡◌, refl, sym, ap, ◌∙◌, subst}
 use mathlib.Core.List.{List, [], ◌∷◌, ◌++◌, append_assoc, append-nil}
-use mathlib.Core.Bool.{Bool, true, false, not, ◌&&◌, ◌||◌, and-false}
+use mathlib.Core.Bool.{Bool, true, false, not, ◌&&◌, and-false}
 use Prim.Native.Nat.{ℕ, zero, suc, ◌+◌, ◌%◌, ◌/◌, ◌^◌, ◌≤◌, ◌<◌}
 use native.Mathlib.Omega.{arith}
 use native.Mathlib.Numerals.{add-one}
@@ -15,21 +16,17 @@ use Rattle.units.specs.Choice.{pick}
 use Rattle.units.proofs.Numbers.{length_bytes_of, num_bytes_of, zeros_replicate, zeros_are}
 use Rattle.units.proofs.Parts.{length_part, part_at, field_lt, bytes_of_field}
 use Rattle.units.proofs.Choices.{picked, passed, and_true}
-use Rattle.body.specs.Walk.{opens, counter_ok, message_shape, uart_shape, shape_by, open_body, stamp_length, length_by, head_at, block_at, stop_at, walk}
+use Rattle.body.specs.Walk.{uart_form, opens, counter_ok, message_shape, uart_shape, shape_by, open_body, stamp_length, length_by, head_at, block_at, stops, stop_at, walk, Opened, Carried, Shaped, Wrong}
 use Rattle.body.specs.Answers.{message_of, tab}
 use Rattle.body.specs.Blocks.{Entry, no_entry, block_bytes, Fits, AllFit, blocks_bytes, message_on, entry_at}
 use Rattle.terms.specs.declared.TimeRule.{TimeRule}
 use Rattle.body.specs.declared.Form.TheVariants.{Stamped, Plain}
 use Rattle.body.specs.declared.Shape.{Shape}
-use Rattle.body.specs.declared.Opened.{Opened}
-use Rattle.body.specs.declared.Opened.TheVariants.{Carried, Shaped, Wrong}
 use Rattle.body.specs.declared.Message.{Message}
-use Rattle.body.specs.declared.Block.{Block}
-use Rattle.body.specs.declared.Block.TheVariants.{Found, Broken}
-use Rattle.body.specs.declared.Checked.TheVariants.{Counted}
 use Rattle.body.proofs.Blocks.{length_block_bytes, blocks_snoc, fit_snoc}
 use Rattle.body.proofs.Walking.{Stands, found_stands, stands_found, found_next, Walking, Counting, counting_stop, counting_next, ending_exact}
 use Rattle.body.proofs.Reading.{ReadingBody, reading_end, reading_block, reading_step, walking_message, length_tab}
+use Rattle.terms.specs.declared.Refusal.{Refusal}
 
 -- the k-th block of a body of this shape
 abbrev pub entry_on : Shape → List ℕ → ℕ → Entry
@@ -96,7 +93,7 @@ module _ (sh : Shape) (bs : List ℕ) (n : ℕ) (stop : stop_at sh (length bs) n
     (on : (k at : ℕ) → k < n → at < length bs → stop_at sh (length bs) k at ≡ false) where
   pub walk_blocks : (es : List Entry) (front : List ℕ) (k : ℕ) → k + length es ≡ n → bs ≡ front ++ blocks_bytes sh.form es
       → AllFit sh.form sh.rule es → Counting sh bs k (length front)
-      → (walk sh bs ≡ Counted n)
+      → (walk sh bs ≡ Ok n)
       × (tab n (entry_on sh bs) ≡ tab k (entry_on sh bs) ++ es)
       × ((i : ℕ) → i < length es → message_of sh bs (k + i) ≡ message_on sh.form (length front + length (blocks_bytes sh.form (take i es))) (get_or es i no_entry))
   unfolding blocks_bytes tab
@@ -105,7 +102,7 @@ module _ (sh : Shape) (bs : List ℕ) (n : ℕ) (stop : stop_at sh (length bs) n
       let l : length front ≡ length bs = omega (arith, ap length is, length-append front []) in
       let there = subst (λ (at : ℕ). Counting sh bs k at) l now in
       let s : stop_at sh (length bs) k (length bs) ≡ true = rw e stop in (
-        counting_stop sh bs k (length bs) there s ∙ ending_exact (length bs) k (length bs) refl ∙ ap Counted e,
+        counting_stop sh bs k (length bs) there s ∙ ending_exact (length bs) k (length bs) refl ∙ ap Ok e,
         rw (append-nil, e),
         λ i h. absurd (omega arith),
       )
@@ -132,25 +129,25 @@ module _ (sh : Shape) (bs : List ℕ) (n : ℕ) (stop : stop_at sh (length bs) n
 
 -- the walk stops behind the last of n blocks, and not before
 module _ (sh : Shape) (bs : List ℕ) (n : ℕ) where
-  pub stop_last : (sh.counted ≡ true → n ≡ sh.count) → 0 < n → stop_at sh (length bs) n (length bs) ≡ true
+  pub stop_last : ((c : ℕ) → sh.count ≡ Some c → n ≡ c) → 0 < n → stop_at sh (length bs) n (length bs) ≡ true
   unfolding stop_at
-  stop_last counted pos = go sh.counted refl
+  stop_last counted pos = go sh.count counted
     where
-      go : (b : Bool) → sh.counted ≡ b → pick b (leb sh.count n) (ltb 0 n && leb (length bs) (length bs)) ≡ true
-      go true c = le-leb sh.count n (omega (arith, counted c))
-      go false c = rw (lt-ltb 0 n pos, le-leb (length bs) (length bs) (omega arith))
+      go : (o : Option ℕ) → ((c : ℕ) → o ≡ Some c → n ≡ c) → stops o (length bs) n (length bs) ≡ true
+      go (Some c) counted = le-leb c n (omega (arith, counted c refl))
+      go None counted = rw (lt-ltb 0 n pos, le-leb (length bs) (length bs) (omega arith))
 
-  pub on_before : (sh.counted ≡ true → n ≤ sh.count) → (k at : ℕ) → k < n → at < length bs → stop_at sh (length bs) k at ≡ false
+  pub on_before : ((c : ℕ) → sh.count ≡ Some c → n ≤ c) → (k at : ℕ) → k < n → at < length bs → stop_at sh (length bs) k at ≡ false
   unfolding stop_at
-  on_before counted k at h l = go sh.counted refl
+  on_before counted k at h l = go sh.count counted
     where
-      go : (b : Bool) → sh.counted ≡ b → pick b (leb sh.count k) (ltb 0 k && leb (length bs) at) ≡ false
-      go true c = lt-leb sh.count k (omega (arith, counted c))
-      go false c = rw (lt-leb (length bs) at l) (and-false (ltb 0 k))
+      go : (o : Option ℕ) → ((c : ℕ) → o ≡ Some c → n ≤ c) → stops o (length bs) k at ≡ false
+      go (Some c) counted = lt-leb c k (omega (arith, counted c refl))
+      go None counted = rw (lt-leb (length bs) at l) (and-false (ltb 0 k))
 
 -- ---- from a body that is accepted to blocks
 
-module _ (sh : Shape) (bs : List ℕ) (at : ℕ) (m : Message) (next : ℕ) (raw : Bytes bs) (found : block_at sh bs at ≡ Found m next) where
+module _ (sh : Shape) (bs : List ℕ) (at : ℕ) (m : Message) (next : ℕ) (raw : Bytes bs) (found : block_at sh bs at ≡ Ok (m, next)) where
   -- a block that is found is the bytes of what it reports
   pub found_is : take next bs ≡ take at bs ++ block_bytes sh.form (entry_at bs m)
   unfolding head_at block_bytes
@@ -198,14 +195,14 @@ module _ (sh : Shape) (bs : List ℕ) (at : ℕ) (m : Message) (next : ℕ) (raw
 pub record Come (sh : Shape) (bs : List ℕ) (k at : ℕ) : Type 0 where
   pub is : take at bs ≡ take 4 bs ++ blocks_bytes sh.form (tab k (entry_on sh bs))
   pub fit : AllFit sh.form sh.rule (tab k (entry_on sh bs))
-  pub within : sh.counted ≡ true → k ≤ sh.count
+  pub within : (c : ℕ) → sh.count ≡ Some c → k ≤ c
 
 pub come_first : (sh : Shape) (bs : List ℕ) → Come sh bs 0 4
 unfolding blocks_bytes tab
-come_first sh bs = record { is = sym (append-nil (take 4 bs)); fit = tt; within = λ c. omega arith }
+come_first sh bs = record { is = sym (append-nil (take 4 bs)); fit = tt; within = λ c e. omega arith }
 
 pub come_next : (sh : Shape) (bs : List ℕ) (k at : ℕ) (m : Message) (next : ℕ) → Bytes bs → Walking sh bs k at → stop_at sh (length bs) k at ≡ false
-    → block_at sh bs at ≡ Found m next → Come sh bs k at → Come sh bs (k + 1) next
+    → block_at sh bs at ≡ Ok (m, next) → Come sh bs k at → Come sh bs (k + 1) next
 unfolding tab stop_at
 come_next sh bs k at m next raw there on found come =
     let e : entry_on sh bs k ≡ entry_at bs m = ap (entry_at bs) (sym (walking_message sh bs k at m next there found)) in
@@ -216,30 +213,30 @@ come_next sh bs k at m next raw there on found come =
           ∙ append_assoc (take 4 bs) (blocks_bytes sh.form (tab k (entry_on sh bs))) (block_bytes sh.form (entry_at bs m)));
       fit =
           rw (add-one, tab, e) (fit_snoc sh.form sh.rule (tab k (entry_on sh bs)) (entry_at bs m) come.fit (found_fits sh bs at m next raw found));
-      within = λ c. omega (arith, leb-false sh.count k (rw c at on));
+      within = λ c e. omega (arith, leb-false c k (rw e at on));
     }
 
 -- where the walk stops at least one block is read, and no fewer than are counted
-pub stop_some : (sh : Shape) (len k at : ℕ) → stop_at sh len k at ≡ true → (sh.counted ≡ true → 0 < sh.count)
-    → (sh.counted ≡ true → sh.count ≤ k) × (0 < k)
+pub stop_some : (sh : Shape) (len k at : ℕ) → stop_at sh len k at ≡ true → ((c : ℕ) → sh.count ≡ Some c → 0 < c)
+    → ((c : ℕ) → sh.count ≡ Some c → c ≤ k) × (0 < k)
 unfolding stop_at
-stop_some sh len k at s least = go sh.counted refl s
+stop_some sh len k at s least = go sh.count s least
   where
-    go : (b : Bool) → sh.counted ≡ b → pick b (leb sh.count k) (ltb 0 k && leb len at) ≡ true → (sh.counted ≡ true → sh.count ≤ k) × (0 < k)
-    go true c s =
-        let l : sh.count ≤ k = leb-true sh.count k s in
-        ((λ q. l), omega (arith, least c))
-    go false c s =
-        ((λ q. let z : ◌≡◌ {A = ℕ} 0 1 = cc in absurd (omega arith)), ltb-true 0 k (and_true (ltb 0 k) (leb len at) s).0)
+    go : (o : Option ℕ) → stops o len k at ≡ true → ((c : ℕ) → o ≡ Some c → 0 < c) → ((c : ℕ) → o ≡ Some c → c ≤ k) × (0 < k)
+    go (Some n) s least =
+        let l : n ≤ k = leb-true n k s in
+        ((λ c e. let same : n ≡ c = cc in omega arith), omega (arith, least n refl))
+    go None s least =
+        ((λ c e. let z : ◌≡◌ {A = ℕ} 0 1 = cc in absurd (omega arith)), ltb-true 0 k (and_true (ltb 0 k) (leb len at) s).0)
 
 -- a body of this shape that holds exactly these blocks
 pub record HoldsBlocks (sh : Shape) (bs : List ℕ) (es : List Entry) : Type 0 where
-  pub counted : sh.counted ≡ true → length es ≡ sh.count
+  pub counted : (c : ℕ) → sh.count ≡ Some c → length es ≡ c
   pub some : 0 < length es
   pub is : bs ≡ take 4 bs ++ blocks_bytes sh.form es
   pub fit : AllFit sh.form sh.rule es
 
-module _ (sh : Shape) (bs : List ℕ) (n : ℕ) (raw : Bytes bs) (least : sh.counted ≡ true → 0 < sh.count) where
+module _ (sh : Shape) (bs : List ℕ) (n : ℕ) (raw : Bytes bs) (least : (c : ℕ) → sh.count ≡ Some c → 0 < c) where
   holds_last : (k at : ℕ) → ReadingBody sh bs n k at → Come sh bs k at → stop_at sh (length bs) k at ≡ true → HoldsBlocks sh bs (tab n (entry_on sh bs))
   holds_last k at now come s =
       let p = reading_end sh bs n k at now s in
@@ -247,7 +244,7 @@ module _ (sh : Shape) (bs : List ℕ) (n : ℕ) (raw : Bytes bs) (least : sh.cou
       let says = stop_some sh (length bs) k at s least in
       let l : length (tab n (entry_on sh bs)) ≡ n = length_tab n (entry_on sh bs) in
       record {
-        counted = λ c. omega (arith, l, e, says.0 c, come.within c);
+        counted = λ c q. omega (arith, l, e, says.0 c q, come.within c q);
         some = omega (arith, says.1);
         is = sym (ap (λ (j : ℕ). take j bs) p.1 ∙ take-length bs) ∙ rw (← e) come.is;
         fit = rw (← e) come.fit;
@@ -259,32 +256,32 @@ module _ (sh : Shape) (bs : List ℕ) (n : ℕ) (raw : Bytes bs) (least : sh.cou
       go (stop_at sh (length bs) k at) refl (block_at sh bs at) refl
       (λ next h r c. holds_from fuel (k + 1) next (omega arith) r c)
     where
-      go : (b : Bool) → stop_at sh (length bs) k at ≡ b → (x : Block) → block_at sh bs at ≡ x
+      go : (b : Bool) → stop_at sh (length bs) k at ≡ b → (x : Result (Message × ℕ) Refusal) → block_at sh bs at ≡ x
           → ((next : ℕ) → at < next → ReadingBody sh bs n (k + 1) next → Come sh bs (k + 1) next → HoldsBlocks sh bs (tab n (entry_on sh bs)))
           → HoldsBlocks sh bs (tab n (entry_on sh bs))
       go true s x f rest = holds_last k at now come s
-      go false s (Broken r) f rest = absurd (reading_block sh bs n k at now r s f)
-      go false s (Found m next) f rest =
+      go false s (Err r) f rest = absurd (reading_block sh bs n k at now r s f)
+      go false s (Ok (m, next)) f rest =
           rest next (found_next sh bs at m next f).0 (reading_step sh bs n k at now m next s f) (come_next sh bs k at m next raw now.0 s f come)
 
 -- ---- the channel word
 
 -- what is known of the shape that a body opens to: `message` says whether its type is 0x30, `word` is its channel word
 pub record Known (message : Bool) (rule : TimeRule) (word : ℕ) (sh : Shape) : Type 0 where
-  pub form_is : pick (message || leb (2 ^ 31) word) Stamped Plain ≡ sh.form
+  pub form_is : pick message Stamped (uart_form word) ≡ sh.form
   pub rule_is : sh.rule ≡ rule
-  pub least : sh.counted ≡ true → 0 < sh.count
+  pub least : (c : ℕ) → sh.count ≡ Some c → 0 < c
 
 known_message : (rule : TimeRule) (word : ℕ) (sh : Shape) → message_shape rule word ≡ Shaped sh → Known true rule word sh
 unfolding message_shape
 known_message rule word sh e =
-    let as_is : Shape = record { form = Stamped; counted = true; count = pick (eqb (word / 2 ^ 16) 0) (word % 2 ^ 16) 1; rule = rule } in
+    let as_is : Shape = record { form = Stamped; count = Some (pick (eqb (word / 2 ^ 16) 0) (word % 2 ^ 16) 1); rule = rule } in
     let p =
     picked (ltb word (2 ^ 18) && counter_ok (word / 2 ^ 16) (word % 2 ^ 16)) (Shaped as_is) Wrong (Shaped sh)
     (λ q. let z : ◌≡◌ {A = ℕ} 0 1 = cc in omega arith) e in
     let is : as_is ≡ sh = cc p.1 in
     let q = and_true (ltb word (2 ^ 18)) (counter_ok (word / 2 ^ 16) (word % 2 ^ 16)) p.0 in
-    record { form_is = rw (← is) refl; rule_is = rw (← is) refl; least = λ c. rw (← is) (least (word / 2 ^ 16) (word % 2 ^ 16) q.1) }
+    record { form_is = rw (← is) refl; rule_is = rw (← is) refl; least = λ c e. let n : pick (eqb (word / 2 ^ 16) 0) (word % 2 ^ 16) 1 ≡ c = cc (ap (λ (s : Shape). s.count) is, e) in rw (← n) (least (word / 2 ^ 16) (word % 2 ^ 16) q.1) }
   where
     least : (t counter : ℕ) → counter_ok t counter ≡ true → 0 < pick (eqb t 0) counter 1
     least zero zero e = let z : ◌≡◌ {A = ℕ} 0 1 = cc in absurd (omega arith)
@@ -294,10 +291,10 @@ known_message rule word sh e =
 known_uart : (rule : TimeRule) (word : ℕ) (sh : Shape) → uart_shape rule word ≡ Shaped sh → Known false rule word sh
 unfolding uart_shape
 known_uart rule word sh e =
-    let as_is : Shape = record { form = pick (leb (2 ^ 31) word) Stamped Plain; counted = false; count = 0; rule = rule } in
+    let as_is : Shape = record { form = pick (leb (2 ^ 31) word) Stamped Plain; count = None; rule = rule } in
     let p = picked (eqb (word % 2 ^ 31) 0) (Shaped as_is) Wrong (Shaped sh) (λ q. let z : ◌≡◌ {A = ℕ} 0 1 = cc in omega arith) e in
     let is : as_is ≡ sh = cc p.1 in
-    record { form_is = rw (← is) refl; rule_is = rw (← is) refl; least = λ c. let d : sh.counted ≡ false = rw (← is) refl in let z : ◌≡◌ {A = ℕ} 0 1 = cc in absurd (omega arith) }
+    record { form_is = rw (← is) refl; rule_is = rw (← is) refl; least = λ c e. let z : ◌≡◌ {A = ℕ} 0 1 = cc (ap (λ (s : Shape). s.count) is, e) in absurd (omega arith) }
 
 pub known : (kind : ℕ) (rule : TimeRule) (bs : List ℕ) (sh : Shape) → open_body kind rule bs ≡ Shaped sh → Known (eqb kind 0x30) rule (field bs 0 4) sh
 unfolding open_body
@@ -330,5 +327,5 @@ open_not_carried kind rule bs o e =
 
     go : (t : Bool) (w : ℕ) → pick t (message_shape rule w) (uart_shape rule w) ≡ Carried → ⊥
     go true w e =
-        never (ltb w (2 ^ 18) && counter_ok (w / 2 ^ 16) (w % 2 ^ 16)) (record { form = Stamped; counted = true; count = pick (eqb (w / 2 ^ 16) 0) (w % 2 ^ 16) 1; rule = rule }) e
-    go false w e = never (eqb (w % 2 ^ 31) 0) (record { form = pick (leb (2 ^ 31) w) Stamped Plain; counted = false; count = 0; rule = rule }) e
+        never (ltb w (2 ^ 18) && counter_ok (w / 2 ^ 16) (w % 2 ^ 16)) (record { form = Stamped; count = Some (pick (eqb (w / 2 ^ 16) 0) (w % 2 ^ 16) 1); rule = rule }) e
+    go false w e = never (eqb (w % 2 ^ 31) 0) (record { form = pick (leb (2 ^ 31) w) Stamped Plain; count = None; rule = rule }) e

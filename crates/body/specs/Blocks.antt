@@ -1,14 +1,13 @@
 -- A body as the blocks it holds: what is built, and what an accepted body is.
-use Rattle.std.specs.Prelude.{List, [], ◌∷◌, ◌++◌, ◌≡◌, true, ℕ, ◌+◌, ◌%◌, ◌^◌, ◌<◌, length, take, replicate}
+use Rattle.std.specs.Prelude.{List, [], ◌∷◌, ◌++◌, ◌≡◌, true, ℕ, ◌+◌, ◌%◌, ◌^◌, ◌<◌, length, take, replicate, Some}
 use Rattle.units.specs.Units.{part, bytes_of}
 use Rattle.terms.specs.Times.{time_ok}
-use Rattle.body.specs.Walk.{open_body, stamp_length, length_by}
+use Rattle.body.specs.Walk.{open_body, stamp_length, length_by, Shaped}
 use Rattle.body.specs.Answers.{message_in, tab}
 use Rattle.terms.specs.declared.TimeRule.{TimeRule}
 use Rattle.body.specs.declared.Form.{Form}
 use Rattle.body.specs.declared.Shape.{Shape}
 use Rattle.body.specs.declared.Message.{Message}
-use Rattle.body.specs.declared.Opened.TheVariants.{Shaped}
 
 -- what a block holds: its time (0 if none is stored), its ID word and its n bytes
 pub record Entry : Type 0 where
@@ -57,7 +56,7 @@ entries_in kind rule bs n = tab n (λ k. entry_at bs (message_in kind rule bs k)
 pub record BodyOf (kind : ℕ) (rule : TimeRule) (bs : List ℕ) (es : List Entry) : Type 0 where
   pub shape : Shape
   pub opened : open_body kind rule bs ≡ Shaped shape
-  pub counted : shape.counted ≡ true → length es ≡ shape.count
+  pub counted : (n : ℕ) → shape.count ≡ Some n → length es ≡ n
   pub some : 0 < length es
   pub is : bs ≡ take 4 bs ++ blocks_bytes shape.form es
   pub fit : AllFit shape.form rule es

@@ -1,3 +1,4 @@
+pub mod Kinds
 pub mod Walk
 pub mod Answers
 pub mod Blocks

@@ -1,6 +1,6 @@
 -- Opened bodies (document 01, from 11.2.9 and 11.2.12): the channel word, one block, where the k-th block stands, and what the walk says.
 -- Places are counted from the body's first byte.
-use Rattle.std.specs.Prelude.{List, Bool, true, false, not, ◌&&◌, ◌||◌, ℕ, zero, suc, ◌+◌, ◌%◌, ◌/◌, ◌^◌, length, ltb, leb, eqb}
+use Rattle.std.specs.Prelude.{List, Bool, not, ◌&&◌, ◌||◌, ℕ, zero, suc, ◌+◌, ◌%◌, ◌/◌, ◌^◌, length, ltb, leb, eqb, Option, Some, None, Result, Ok, Err}
 use Rattle.units.specs.Units.{part, field, zeros}
 use Rattle.units.specs.Choice.{pick}
 use Rattle.terms.specs.Refusals.{fault}
@@ -9,15 +9,16 @@ use Rattle.terms.specs.declared.TimeRule.{TimeRule}
 use Rattle.body.specs.declared.Form.{Form}
 use Rattle.body.specs.declared.Form.TheVariants.{Stamped, Plain}
 use Rattle.body.specs.declared.Shape.{Shape}
-use Rattle.body.specs.declared.Opened.{Opened}
-use Rattle.body.specs.declared.Opened.TheVariants.{Carried, Shaped, Wrong}
 use Rattle.body.specs.declared.Message.{Message}
-use Rattle.body.specs.declared.Block.{Block}
-use Rattle.body.specs.declared.Block.TheVariants.{Found, Broken}
-use Rattle.body.specs.declared.Checked.{Checked}
-use Rattle.body.specs.declared.Checked.TheVariants.{Counted, Faulty}
+use Rattle.terms.specs.declared.Refusal.{Refusal}
 
 -- ---- the channel word
+
+-- a body by its type and channel word: not looked into, its shape, or a wrong channel word
+pub data Opened : Type 0 where
+  Carried : Opened
+  Shaped : Shape → Opened
+  Wrong : Opened
 
 -- 0x30 (Message) and 0x50 (UART) are opened; every other type is carried
 abbrev pub opens : ℕ → Bool
@@ -32,14 +33,18 @@ counter_ok bits counter = (eqb bits 0 && ltb 0 counter) || (eqb bits 1 && eqb co
 unfoldable pub message_shape : TimeRule → ℕ → Opened
 message_shape rule word =
     pick (ltb word (2 ^ 18) && counter_ok (word / 2 ^ 16) (word % 2 ^ 16))
-    (Shaped (record { form = Stamped; counted = true; count = pick (eqb (word / 2 ^ 16) 0) (word % 2 ^ 16) 1; rule = rule }))
+    (Shaped (record { form = Stamped; count = Some (pick (eqb (word / 2 ^ 16) 0) (word % 2 ^ 16) 1); rule = rule }))
     Wrong
 
--- 0x50: bits 30-0 are zero, a time stamp if bit 31 is set; one or more blocks, to the end of the body
+-- 0x50: a time stamp if bit 31 is set
+abbrev pub uart_form : ℕ → Form
+uart_form word = pick (leb (2 ^ 31) word) Stamped Plain
+
+-- bits 30-0 are zero; one or more blocks, to the end of the body
 unfoldable pub uart_shape : TimeRule → ℕ → Opened
 uart_shape rule word =
     pick (eqb (word % 2 ^ 31) 0)
-    (Shaped (record { form = pick (leb (2 ^ 31) word) Stamped Plain; counted = false; count = 0; rule = rule }))
+    (Shaped (record { form = uart_form word; count = None; rule = rule }))
     Wrong
 
 -- what a channel word says, by the type
@@ -90,26 +95,26 @@ block_end m = padded_end m.start m.length
 
 -- a block at `at` whose head is whole, or the reason why it is none: 2, cut short; 3, time (0 where none is stored, which is in form under every rule);
 -- 4, length zero; 5, pad not zero
-unfoldable pub judge : TimeRule → List ℕ → ℕ → Message → Block
+unfoldable pub judge : TimeRule → List ℕ → ℕ → Message → Result (Message × ℕ) Refusal
 judge rule bs at m =
-    pick (ltb (length bs) (block_end m)) (Broken (fault at 2))
-    (pick (not (time_ok rule m.time)) (Broken (fault at 3))
-    (pick (eqb m.length 0) (Broken (fault at 4))
-    (pick (not (zeros (part bs (m.start + m.length) (m.length % 2)))) (Broken (fault at 5))
-    (Found m (block_end m)))))
+    pick (ltb (length bs) (block_end m)) (Err (fault at 2))
+    (pick (not (time_ok rule m.time)) (Err (fault at 3))
+    (pick (eqb m.length 0) (Err (fault at 4))
+    (pick (not (zeros (part bs (m.start + m.length) (m.length % 2)))) (Err (fault at 5))
+    (Ok (m, block_end m)))))
 
 -- the block at `at`. Reason 7: the body ends there; reason 2: cut short in its head; else judged
-unfoldable pub block_at : Shape → List ℕ → ℕ → Block
+unfoldable pub block_at : Shape → List ℕ → ℕ → Result (Message × ℕ) Refusal
 block_at sh bs at =
-    pick (leb (length bs) at) (Broken (fault at 7))
-    (pick (ltb (length bs) (at + stamp_length sh.form + 4)) (Broken (fault at 2))
+    pick (leb (length bs) at) (Err (fault at 7))
+    (pick (ltb (length bs) (at + stamp_length sh.form + 4)) (Err (fault at 2))
     (judge sh.rule bs at (head_at sh.form bs at)))
 
 -- ---- the walk
 
-abbrev pub behind : Block → ℕ
-behind (Found m next) = next
-behind (Broken f) = f.place
+abbrev pub behind : Result (Message × ℕ) Refusal → ℕ
+behind (Ok (m, next)) = next
+behind (Err f) = f.place
 
 -- where the k-th block stands, from 0: behind the channel word, and each behind the one before it
 unfoldable pub spot : Shape → List ℕ → ℕ → ℕ
@@ -117,19 +122,23 @@ spot sh bs zero = 4
 spot sh bs (suc k) = behind (block_at sh bs (spot sh bs k))
 
 -- k blocks are read and the next would stand at `at`: whether no more are to come
+abbrev pub stops : Option ℕ → ℕ → ℕ → ℕ → Bool
+stops (Some count) len k at = leb count k
+stops None len k at = ltb 0 k && leb len at
+
 unfoldable pub stop_at : Shape → ℕ → ℕ → ℕ → Bool
-stop_at sh len k at = pick sh.counted (leb sh.count k) (ltb 0 k && leb len at)
+stop_at sh len k at = stops sh.count len k at
 
 -- no more are to come: the body ends there; reason 6: bytes are left over
-unfoldable pub ending : ℕ → ℕ → ℕ → Checked
-ending len k at = pick (eqb at len) (Counted k) (Faulty (fault at 6))
+unfoldable pub ending : ℕ → ℕ → ℕ → Result ℕ Refusal
+ending len k at = pick (eqb at len) (Ok k) (Err (fault at 6))
 
-abbrev pub after : Block → Checked → Checked
-after (Found m next) rest = rest
-after (Broken f) rest = Faulty f
+abbrev pub after : Result (Message × ℕ) Refusal → Result ℕ Refusal → Result ℕ Refusal
+after (Ok (m, next)) rest = rest
+after (Err f) rest = Err f
 
 -- the walk from the k-th block on, in fewer than f turns more; it has always stopped before they run out (walk_enough)
-unfoldable pub walk_from : Shape → List ℕ → ℕ → ℕ → Checked
+unfoldable pub walk_from : Shape → List ℕ → ℕ → ℕ → Result ℕ Refusal
 walk_from sh bs zero k = ending (length bs) k (spot sh bs k)
 walk_from sh bs (suc f) k =
     pick (stop_at sh (length bs) k (spot sh bs k))
@@ -137,5 +146,5 @@ walk_from sh bs (suc f) k =
     (after (block_at sh bs (spot sh bs k)) (walk_from sh bs f (suc k)))
 
 -- what the blocks behind the channel word say: their number, or the first fault
-unfoldable pub walk : Shape → List ℕ → Checked
+unfoldable pub walk : Shape → List ℕ → Result ℕ Refusal
 walk sh bs = walk_from sh bs (length bs + 1) 0

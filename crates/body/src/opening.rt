@@ -1,18 +1,14 @@
 // The channel word of an opened body.
-ghost use Rattle.std.specs.Prelude.{◌≡◌, true, ◌≤◌, length};
-ghost use Rattle.body.specs.Walk.{opens, counter_ok, message_shape, uart_shape, open_body};
-ghost use Rattle.body.specs.inner.Walks.{form_in};
+#![tactic(auto, unfolding(crate::specs::Walk::message_shape, crate::specs::Walk::uart_shape, crate::specs::Walk::open_body))]
 
-use crate::{Form, Opened, Shape};
+ghost use Rattle.std.specs.Prelude.{◌≡◌, ◌≤◌, length};
+ghost use Rattle.body.specs.Kinds.{type_of};
+ghost use Rattle.body.specs.Walk.{counter_ok, message_shape, uart_form, uart_shape, open_body};
+ghost use Rattle.body.specs.inner.Walks.{form_in, opened};
+
+use crate::{Form, Kind, Shape};
 use terms::TimeRule;
-use units::read32;
-
-// Whether a type is opened.
-pub fn opens_kind(kind: u8) -> bool
-    ensures { result ≡ opens kind }
-{
-    (kind == 0x30) | (kind == 0x50)
-}
+use units::InBytes;
 
 // Whether the counter of a 0x30 body fits its type, bits 17-16 of the channel word.
 fn counter_ok(bits: u32, counter: u32) -> bool
@@ -28,56 +24,58 @@ fn counter_ok(bits: u32, counter: u32) -> bool
 }
 
 // 0x30: the type and the counter.
-fn message_shape(rule: TimeRule, word: u32) -> Opened
-    ensures { result ≡ message_shape rule word }
+fn message_shape(rule: TimeRule, word: u32) -> Option<Shape>
+    ensures { opened result ≡ message_shape rule word }
 {
     let bits = word / 0x1_0000;
     let counter = word % 0x1_0000;
     if !((word < 0x4_0000) & counter_ok(bits, counter)) {
-        return Opened::Wrong;
+        return None;
     }
     let count = if bits == 0 { counter as usize } else { 1 };
-    Opened::Shaped(Shape {
+    Some(Shape {
         form: Form::Stamped,
-        counted: true,
-        count,
+        count: Some(count),
         rule,
     })
 }
 
-// 0x50: the form of its blocks.
-fn uart_shape(rule: TimeRule, word: u32) -> Opened
-    ensures { result ≡ uart_shape rule word }
+// 0x50: whether its blocks have time stamps.
+fn uart_form(word: u32) -> Form
+    ensures { result ≡ uart_form word }
+{
+    if 0x8000_0000 <= word {
+        Form::Stamped
+    } else {
+        Form::Plain
+    }
+}
+
+// 0x50: the form of its blocks, one or more.
+fn uart_shape(rule: TimeRule, word: u32) -> Option<Shape>
+    ensures { opened result ≡ uart_shape rule word }
 {
     if word % 0x8000_0000 == 0 {
-        let form = if 0x8000_0000 <= word {
-            Form::Stamped
-        } else {
-            Form::Plain
-        };
-        return Opened::Shaped(Shape {
-            form,
-            counted: false,
-            count: 0,
+        return Some(Shape {
+            form: uart_form(word),
+            count: None,
             rule,
         });
     }
-    Opened::Wrong
+    None
 }
 
-// What the channel word says of a body of an opened type.
-pub fn open_body(body: &[u8], kind: u8, rule: TimeRule) -> Opened
-    requires { opens kind ≡ true }
-    ensures { result ≡ open_body kind rule body.now }
+// What the channel word says of a body of an opened type; none where it is wrong.
+pub fn open_body(body: &[u8], kind: Kind, rule: TimeRule) -> Option<Shape>
+    ensures { opened result ≡ open_body (type_of kind) rule body.now }
 {
     if body.len() < 4 {
-        return Opened::Wrong;
+        return None;
     }
-    let word = read32(body, 0);
-    if kind == 0x30 {
-        message_shape(rule, word)
-    } else {
-        uart_shape(rule, word)
+    let word = u32::read(body, 0);
+    match kind {
+        Kind::Message => message_shape(rule, word),
+        Kind::Uart => uart_shape(rule, word),
     }
 }
 
@@ -86,9 +84,9 @@ pub fn form_in(body: &[u8], kind: u8) -> Form
     requires { 4 ≤ length body.now }
     ensures { result ≡ form_in kind body.now }
 {
-    if (kind == 0x30) | (0x8000_0000 <= read32(body, 0)) {
+    if kind == 0x30 {
         Form::Stamped
     } else {
-        Form::Plain
+        uart_form(u32::read(body, 0))
     }
 }

@@ -1,58 +1,40 @@
 // One block, and the walk over all blocks of a body.
-ghost use Rattle.std.specs.Prelude.{◌≡◌, ◌+◌, ◌^◌, ◌≤◌, ◌<◌, length, true};
-ghost use Rattle.terms.specs.Refusals.{fault};
-ghost use Rattle.body.specs.declared.Block.TheVariants.{Broken};
-ghost use Rattle.body.specs.inner.Walks.{stepped, walked};
-ghost use Rattle.terms.specs.inner.Masks.{mask_of, limit_of};
-ghost use Rattle.body.specs.Walk.{opens, stamp_length, length_by, head_at, block_end, judge, block_at, stop_at, walk};
+ghost use Rattle.std.specs.Prelude.{ℕ, ◌≡◌, ◌+◌, ◌^◌, ◌≤◌, ◌<◌, length};
+ghost use Rattle.body.specs.Kinds.{type_of};
+ghost use Rattle.body.specs.inner.Walks.{faulted, reached, walked, answered};
+ghost use Rattle.body.specs.Walk.{stamp_length, head_at, block_end, judge, block_at, stop_at, walk};
 ghost use Rattle.body.specs.Answers.{check_body};
 
 use crate::opening::open_body;
-use crate::{Form, Message, Opened, Shape, Walked};
-use terms::time::{limit_of, mask_of};
-use terms::{Refusal, TimeRule, fault};
-use units::{all_zero, read32, read64};
-
-// The bytes of a block's time stamp.
-pub fn stamp_length(form: Form) -> usize
-    ensures { (result ≡ stamp_length form) × (result ≤ 8) }
-{
-    match form {
-        Form::Stamped => 8,
-        Form::Plain => 0,
-    }
-}
-
-// n, by the ID word: its bits 15-0, in either form.
-fn length_by(form: Form, id: u32) -> usize
-    ensures { result ≡ length_by form id }
-{
-    (id % 0x1_0000) as usize
-}
+use crate::{Form, Kind, Message, Shape};
+use terms::time::TimeTest;
+use terms::{Reason, Refusal, TimeRule, fault, fault_number};
+use units::{InBytes, all_zero};
 
 // What the head of a block at `at` says.
+#[tactic(auto, unfolding(crate::specs::Walk::head_at, crate::specs::Walk::stamp_length))]
 pub fn head_at(body: &[u8], at: usize, form: Form) -> Message
     requires { at + stamp_length form + 4 ≤ length body.now }
     ensures { result ≡ head_at form body.now at }
 {
     match form {
         Form::Stamped => {
-            let time = read64(body, at);
-            let id = read32(body, at + 8);
+            let time = u64::read(body, at);
+            let id = u32::read(body, at + 8);
             Message {
                 time,
                 id,
                 start: at + 8 + 4,
-                length: length_by(form, id),
+                length: form.length_by(id),
             }
         }
         Form::Plain => {
-            let id = read32(body, at);
+            let id = u32::read(body, at);
             Message {
                 time: 0,
                 id,
                 start: at + 4,
-                length: length_by(form, id),
+                length: form.length_by(id),
             }
         }
     }
@@ -66,126 +48,135 @@ pub fn block_end(m: Message) -> usize
     m.start + m.length + m.length % 2
 }
 
-// A fault at `at`, for this reason.
-fn broken(at: usize, reason: u8) -> Walked
-    ensures { result ≡ stepped (Broken (fault at reason)) }
-{
-    Walked { reason, number: at }
-}
-
-// The place behind the block at `at`, by what its head says, or its fault. The time is looked at first, and told of after the cut:
-// the other way the compiler keeps what the cut says beside the walk (docs/DECISIONS.md, "Speed").
-fn judge_block(body: &[u8], rule: TimeRule, mask: u64, limit: u64, at: usize, m: Message) -> Walked
-    requires mask_value { (mask ≡ mask_of rule) × (limit ≡ limit_of rule) }
-    requires at_le_start { (at ≤ m.start) × (m.start ≤ length body.now) × (m.length < 2 ^ 16) }
-    ensures { result ≡ stepped (judge rule body.now at m) }
+// The place behind a block, by what its head says, or the rule that it breaks. The time is looked at first, and told of after the
+// cut: the other way the compiler keeps what the cut says beside the walk (docs/DECISIONS.md, "Speed").
+#[tactic(auto, unfolding(crate::specs::Walk::judge))]
+fn judge_block(body: &[u8], test: TimeTest, m: Message) -> Result<usize, Reason>
+    requires { (m.start ≤ length body.now) × (m.length < 2 ^ 16) }
+    ensures { (at : ℕ) → faulted at result ≡ reached (judge test.rule body.now at m) }
 {
     let pad = m.start + m.length;
     let next = block_end(m);
     let cut = body.len() < next;
-    if limit <= m.time & mask {
+    if !test.passes(m.time) {
         if cut {
-            return broken(at, 2);
+            return Err(Reason::CutShort);
         }
-        return broken(at, 3);
+        return Err(Reason::Time);
     }
     if cut {
-        return broken(at, 2);
+        return Err(Reason::CutShort);
     }
     if m.length == 0 {
-        return broken(at, 4);
+        return Err(Reason::LengthZero);
     }
     if !all_zero(&body[pad..next]) {
-        return broken(at, 5);
+        return Err(Reason::Pad);
     }
-    Walked {
-        reason: 0,
-        number: next,
-    }
+    Ok(next)
 }
 
-// The place behind the block at `at`, or its fault. Two plain numbers: an enum would go through memory.
-fn next_block(body: &[u8], at: usize, shape: Shape, mask: u64, limit: u64) -> Walked
-    requires mask_value { (mask ≡ mask_of shape.rule) × (limit ≡ limit_of shape.rule) }
+// The place behind the block at `at`, or the rule that it breaks.
+#[tactic(auto, unfolding(crate::specs::Walk::block_at, crate::specs::Walk::head_at))]
+fn next_block(body: &[u8], at: usize, shape: Shape, test: TimeTest) -> Result<usize, Reason>
+    requires test_value { test.rule ≡ shape.rule }
     requires at_in_bounds { at ≤ length body.now }
-    ensures { result ≡ stepped (block_at shape body.now at) }
+    ensures { faulted at result ≡ reached (block_at shape body.now at) }
 {
     let form = shape.form;
-    if body.len() < at + stamp_length(form) + 4 {
+    if body.len() < at + form.stamp_length() + 4 {
         if body.len() <= at {
-            return broken(at, 7);
+            return Err(Reason::Missing);
         }
-        return broken(at, 2);
+        return Err(Reason::CutShort);
     }
-    let m = head_at(body, at, form);
-    let rule = shape.rule;
-    judge_block(body, rule, mask, limit, at, m)
+    judge_block(body, test, head_at(body, at, form))
 }
 
 // Whether no more blocks are to come after k, where the next would stand at `at`.
+#[tactic(auto, unfolding(crate::specs::Walk::stop_at))]
 fn stop_at(shape: Shape, len: usize, k: usize, at: usize) -> bool
     ensures { result ≡ stop_at shape len k at }
 {
-    if shape.counted {
-        return shape.count <= k;
+    match shape.count {
+        Some(count) => count <= k,
+        None => (0 < k) & (len <= at),
     }
-    (0 < k) & (len <= at)
 }
 
-// The number of blocks behind the channel word, or the first fault.
-fn count_blocks(body: &[u8], shape: Shape) -> Walked
+// The number of blocks behind the channel word, or the first fault. A `while`, since the count or the place ends it, and both are
+// in what it tells.
+fn count_blocks(body: &[u8], shape: Shape) -> Result<usize, Refusal>
     requires { 4 ≤ length body.now }
-    ensures { result ≡ walked (walk shape body.now) }
+    ensures { result ≡ walk shape body.now }
 {
-    let rule = shape.rule;
-    let mask = mask_of(rule);
-    let limit = limit_of(rule);
+    let test = TimeTest::from(shape.rule);
     let mut k: usize = 0;
     let mut at: usize = 4;
     while !stop_at(shape, body.len(), k, at) {
-        let block = next_block(body, at, shape, mask, limit);
-        if block.reason != 0 {
-            return block;
-        }
-        at = block.number;
+        at = next_block(body, at, shape, test).map_err(|reason| fault(at, reason))?;
         k += 1;
     }
     if at == body.len() {
-        Walked {
-            reason: 0,
-            number: k,
-        }
+        Ok(k)
     } else {
-        broken(at, 6)
+        Err(fault(at, Reason::LeftOver))
     }
 }
 
-// The walk over a body of an opened type, which is never `Carried`: its messages, or its first fault.
-// `[0..]` keeps the slice in registers (docs/DECISIONS.md, "Speed").
-pub fn walk_body(body: &[u8], kind: u8, rule: TimeRule) -> Walked
-    requires { opens kind ≡ true }
-    ensures { result ≡ walked (check_body kind rule body.now) }
+// The messages of a body of an opened type, or its first fault.
+fn walk_shape(body: &[u8], kind: Kind, rule: TimeRule) -> Result<usize, Refusal>
+    ensures { result ≡ check_body (type_of kind) rule body.now }
 {
-    walk_whole(&body[0..], kind, rule)
+    let shape = open_body(body, kind, rule).ok_or(fault(0, Reason::ChannelWord))?;
+    count_blocks(body, shape)
 }
 
-// The refusal of a walk that names a reason: the one place where its numbers become one.
-pub fn walk_refusal(walked: Walked) -> Refusal
-    ensures { result ≡ fault walked.number walked.reason }
-{
-    fault(walked.number, walked.reason)
+// A walk's answer in two numbers, which are returned in registers: 0 and how many messages there are; or the reason of the first
+// fault and its place. A `Result` is returned through memory: tried, 30 instructions more for each body, 10 % of 40-byte-uart.
+#[derive(Clone, Copy)]
+struct Walked {
+    reason: u8,
+    number: usize,
 }
 
-fn walk_whole(body: &[u8], kind: u8, rule: TimeRule) -> Walked
-    requires { opens kind ≡ true }
-    ensures { result ≡ walked (check_body kind rule body.now) }
-{
-    match open_body(body, kind, rule) {
-        Opened::Carried => Walked {
-            reason: 0,
-            number: 0,
-        },
-        Opened::Shaped(shape) => count_blocks(body, shape),
-        Opened::Wrong => broken(0, 1),
+impl From<Result<usize, Refusal>> for Walked {
+    ghost from_gives = { λ answer w. w ≡ walked answer };
+
+    fn from(answer: Result<usize, Refusal>) -> Walked {
+        match answer {
+            Ok(number) => Walked { reason: 0, number },
+            Err(f) => Walked {
+                reason: f.reason,
+                number: f.place,
+            },
+        }
     }
+}
+
+impl Walked {
+    fn answer(self) -> Result<usize, Refusal>
+        ensures { result ≡ answered self }
+    {
+        if self.reason == 0 {
+            return Ok(self.number);
+        }
+        Err(fault_number(self.number, self.reason))
+    }
+}
+
+// The one copy of the walk in the library.
+#[inline(never)]
+fn walk_whole(body: &[u8], kind: Kind, rule: TimeRule) -> Walked
+    ensures { result ≡ walked (check_body (type_of kind) rule body.now) }
+{
+    Walked::from(walk_shape(body, kind, rule))
+}
+
+// The walk over a body of an opened type: the number of its messages, or its first fault.
+#[inline(always)]
+pub fn walk_body(body: &[u8], kind: Kind, rule: TimeRule) -> Result<usize, Refusal>
+    ensures { result ≡ check_body (type_of kind) rule body.now }
+{
+    walk_whole(body, kind, rule).answer()
 }

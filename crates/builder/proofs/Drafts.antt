@@ -1,5 +1,5 @@
 -- Laws of the builder's steps: what an answer says of the tests behind it, and what a step leaves in its buffer.
-use Rattle.std.proofs.Common.{◌≡◌, ℕ, ◌+◌, ◌*◌, ◌%◌, ◌^◌, ◌<◌, ◌≤◌, Bool, true, false, not, ◌&&◌, ◌||◌, eqb, ltb, leb, List, ◌++◌, length, replicate, sym, refl, ap, arith, length-append, ltb-false, le-ltb, leb-false}
+use Rattle.std.proofs.Common.{◌≡◌, ℕ, ◌+◌, ◌*◌, ◌%◌, ◌^◌, ◌<◌, ◌≤◌, Bool, true, false, not, ◌&&◌, ◌||◌, eqb, ltb, leb, List, ◌++◌, length, replicate, sym, refl, ap, arith, length-append, ltb-false, le-ltb, leb-false, Result, Ok, Err}
 use lib.ListN.{length-replicate}
 use borrow.Author.Tests.{eqb-false, not-false}
 use Rattle.units.specs.Units.{bytes_of, splice}
@@ -11,10 +11,8 @@ use Rattle.body.specs.Walk.{stamp_length, block_size}
 use Rattle.body.specs.Blocks.{block_bytes}
 use Rattle.terms.specs.declared.Refusal.{Refusal}
 use Rattle.body.specs.declared.Form.{Form}
-use Rattle.builder.specs.Build.{counts, makes, bad_draft, open_step, bad_block, bad_time, stray_time, grown, draft_added, add_step, entry_of, close_step, step_told, buf_after}
+use Rattle.builder.specs.Build.{denied, counts, makes, bad_draft, open_step, bad_block, bad_time, stray_time, grown, draft_added, add_step, entry_of, close_step, step_told, buf_after}
 use Rattle.builder.specs.declared.Draft.{Draft}
-use Rattle.builder.specs.declared.Step.{Step}
-use Rattle.builder.specs.declared.Step.TheVariants.{Done, Denied}
 
 -- ---- tests that passed
 
@@ -59,13 +57,13 @@ block_facts d n e =
 
 -- ---- steps that are done
 
-pub denies : (r r' : Refusal) (d : Draft) → r ≡ r' → Denied r d ≡ Denied r' d
-denies r r' d e = ap (λ (x : Refusal). Denied x d) e
+pub denies : (r r' : Refusal) (d : Draft) → r ≡ r' → denied r d ≡ denied r' d
+denies r r' d e = ap (λ (x : Refusal). denied x d) e
 
-pub not_done : (r : Refusal) (d d' : Draft) → Denied r d ≡ Done d' → ⊥
+pub not_done : (r : Refusal) (d d' : Draft) → denied r d ≡ Ok d' → ⊥
 not_done r d d' e = let z : ◌≡◌ {A = ℕ} 0 1 = cc in omega arith
 
-pub open_done : (d : Draft) (kind rule room : ℕ) (d' : Draft) → open_step d kind rule room ≡ Done d'
+pub open_done : (d : Draft) (kind rule room : ℕ) (d' : Draft) → open_step d kind rule room ≡ Ok d'
     → (makes kind rule ≡ true) × (4 ≤ room) × (d' ≡ record { used = 4; blocks = 0; kind = kind; rule = rule })
 unfolding open_step
 open_done d kind rule room d' e =
@@ -76,7 +74,7 @@ open_done d kind rule room d' e =
     (not-false (makes kind rule) p.0, ltb-false room 4 q.0, same)
 
 -- a block that is added passed every test
-pub add_done : (d : Draft) (room time n : ℕ) (d' : Draft) → add_step d room time n ≡ Done d'
+pub add_done : (d : Draft) (room time n : ℕ) (d' : Draft) → add_step d room time n ≡ Ok d'
     → (bad_draft d room ≡ false) × (bad_block d n ≡ false) × (bad_time d.rule time ≡ false) × (stray_time d.rule time ≡ false)
     × (grown d n ≤ room) × (d' ≡ draft_added d n)
 unfolding add_step
@@ -89,7 +87,7 @@ add_done d room time n d' e =
     let same : d' ≡ draft_added d n = cc t.1 in
     (p.0, q.0, r.0, s.0, ltb-false room (grown d n) t.0, same)
 
-pub close_done : (d : Draft) (room : ℕ) (d' : Draft) → close_step d room ≡ Done d' → (bad_draft d room ≡ false) × (d.used ≡ 4 → ⊥) × (d' ≡ d)
+pub close_done : (d : Draft) (room : ℕ) (d' : Draft) → close_step d room ≡ Ok d' → (bad_draft d room ≡ false) × (d.used ≡ 4 → ⊥) × (d' ≡ d)
 unfolding close_step
 close_done d room d' e =
     let p = passed (bad_draft d room) _ _ _ (not_done _ d d') e in
@@ -98,38 +96,41 @@ close_done d room d' e =
     (p.0, eqb-false d.used 4 q.0, same)
 
 -- closing that is not refused is done
-pub close_told : (d : Draft) (len : ℕ) → (step_told (close_step d len)).refusal.number ≡ 0 → close_step d len ≡ Done d
+pub close_told : (d : Draft) (len : ℕ) → (step_told (close_step d len)).refusal.number ≡ 0 → close_step d len ≡ Ok d
 unfolding close_step
 close_told d len = told (bad_draft d len) _ _ (λ e. absurd (omega arith)) (told (eqb d.used 4) _ _ (λ e. absurd (omega arith)) (λ e. refl))
   where
-    told : (t : Bool) (r : Refusal) (rest : Step) → (r.number ≡ 0 → ⊥) → ((step_told rest).refusal.number ≡ 0 → rest ≡ Done d)
-        → (step_told (pick t (Denied r d) rest)).refusal.number ≡ 0 → pick t (Denied r d) rest ≡ Done d
+    told : (t : Bool) (r : Refusal) (rest : Result Draft (Refusal × Draft)) → (r.number ≡ 0 → ⊥) → ((step_told rest).refusal.number ≡ 0 → rest ≡ Ok d)
+        → (step_told (pick t (denied r d) rest)).refusal.number ≡ 0 → pick t (denied r d) rest ≡ Ok d
     told true r rest other f e = absurd (other e)
     told false r rest other f e = f e
 
 -- ---- steps that are denied: the state given is handed back
 
-abbrev Back : Draft → Step → Type 0
-Back d s = (r : Refusal) (d' : Draft) → s ≡ Denied r d' → d' ≡ d
+abbrev Back : Draft → Result Draft (Refusal × Draft) → Type 0
+Back d s = (r : Refusal) (d' : Draft) → s ≡ denied r d' → d' ≡ d
 
-back_denied : (r : Refusal) (d : Draft) → Back d (Denied r d)
-back_denied r d r' d' e = cc
+pub denied_same : (x y : Refusal × Draft) → ◌≡◌ {A = Result Draft (Refusal × Draft)} (Err x) (Err y) → x ≡ y
+denied_same x y e = cc e
 
-back_done : (d new : Draft) → Back d (Done new)
+back_denied : (r : Refusal) (d : Draft) → Back d (denied r d)
+back_denied r d r' d' e = ap (λ (p : Refusal × Draft). p.1) (sym (denied_same _ _ e))
+
+back_done : (d new : Draft) → Back d (Ok new)
 back_done d new r d' e = absurd (not_done r d' new (sym e))
 
-back_pick : (t : Bool) (d : Draft) (x y : Step) → Back d x → Back d y → Back d (pick t x y)
+back_pick : (t : Bool) (d : Draft) (x y : Result Draft (Refusal × Draft)) → Back d x → Back d y → Back d (pick t x y)
 back_pick true d x y f g = f
 back_pick false d x y f g = g
 
-pub open_denied : (d : Draft) (kind rule room : ℕ) (r : Refusal) (d' : Draft) → open_step d kind rule room ≡ Denied r d' → d' ≡ d
+pub open_denied : (d : Draft) (kind rule room : ℕ) (r : Refusal) (d' : Draft) → open_step d kind rule room ≡ denied r d' → d' ≡ d
 unfolding open_step
 open_denied d kind rule room =
     back_pick (not (makes kind rule)) d _ _ (back_denied _ d)
     (back_pick (ltb room 4) d _ _ (back_denied _ d)
     (back_done d _))
 
-pub add_denied : (d : Draft) (room time n : ℕ) (r : Refusal) (d' : Draft) → add_step d room time n ≡ Denied r d' → d' ≡ d
+pub add_denied : (d : Draft) (room time n : ℕ) (r : Refusal) (d' : Draft) → add_step d room time n ≡ denied r d' → d' ≡ d
 unfolding add_step
 add_denied d room time n =
     back_pick (bad_draft d room) d _ _ (back_denied _ d)
@@ -139,7 +140,7 @@ add_denied d room time n =
     (back_pick (ltb room (grown d n)) d _ _ (back_denied _ d)
     (back_done d _)))))
 
-pub close_denied : (d : Draft) (room : ℕ) (r : Refusal) (d' : Draft) → close_step d room ≡ Denied r d' → d' ≡ d
+pub close_denied : (d : Draft) (room : ℕ) (r : Refusal) (d' : Draft) → close_step d room ≡ denied r d' → d' ≡ d
 unfolding close_step
 close_denied d room =
     back_pick (bad_draft d room) d _ _ (back_denied _ d)
@@ -148,11 +149,11 @@ close_denied d room =
 
 -- ---- what a step leaves in its buffer
 
-pub buf_kept : (s : Step) (r : Refusal) (d : Draft) (old : List ℕ) (at : ℕ) (vs : List ℕ) → s ≡ Denied r d → old ≡ buf_after s old at vs
+pub buf_kept : (s : Result Draft (Refusal × Draft)) (r : Refusal × Draft) (old : List ℕ) (at : ℕ) (vs : List ℕ) → s ≡ Err r → old ≡ buf_after s old at vs
 unfolding buf_after
-buf_kept s r d old at vs e = simp e
+buf_kept s r old at vs e = simp e
 
-pub buf_put : (s : Step) (d : Draft) (old : List ℕ) (at : ℕ) (vs : List ℕ) → s ≡ Done d → splice old at vs ≡ buf_after s old at vs
+pub buf_put : (s : Result Draft (Refusal × Draft)) (d : Draft) (old : List ℕ) (at : ℕ) (vs : List ℕ) → s ≡ Ok d → splice old at vs ≡ buf_after s old at vs
 unfolding buf_after
 buf_put s d old at vs e = simp e
 

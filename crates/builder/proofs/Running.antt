@@ -1,5 +1,5 @@
 -- Building step by step: what is closed last is the body of the blocks added.
-use Rattle.std.proofs.Common.{◌≡◌, ℕ, ◌+◌, ◌/◌, ◌%◌, ◌^◌, ◌<◌, ◌≤◌, Bool, true, false, not, ◌&&◌, ◌||◌, eqb, ltb, List, [], ◌∷◌, ◌++◌, length, take, drop, sym, refl, ap, ◌∙◌, subst, append_assoc, append-nil, arith, length-append, length-drop, take-append-drop, length-take-le, take_at, le-ltb, lt-ltb, ne_eqb, eqb-true}
+use Rattle.std.proofs.Common.{◌≡◌, ℕ, ◌+◌, ◌/◌, ◌%◌, ◌^◌, ◌<◌, ◌≤◌, Bool, true, false, not, ◌&&◌, ◌||◌, eqb, ltb, List, [], ◌∷◌, ◌++◌, length, take, drop, sym, refl, ap, ◌∙◌, subst, append_assoc, append-nil, arith, length-append, length-drop, take-append-drop, length-take-le, take_at, le-ltb, lt-ltb, ne_eqb, eqb-true, Some, None, Result, Ok, Err}
 use lib.Arith.{digits_mod}
 use lib.Seq.{drop-append-le}
 use borrow.Author.Tests.{not-false}
@@ -11,18 +11,16 @@ use Rattle.units.proofs.Choices.{and_true}
 use Rattle.terms.specs.Times.{time_ok, rule_of}
 use Rattle.body.proofs.Blocks.{length_block_bytes, blocks_snoc, fit_snoc}
 use Rattle.terms.proofs.Times.{zero_ok}
-use Rattle.body.specs.Walk.{message_shape, uart_shape, open_body, stamp_length, length_by}
+use Rattle.body.specs.Walk.{message_shape, uart_shape, open_body, stamp_length, length_by, Shaped}
 use Rattle.body.specs.Blocks.{Entry, block_bytes, blocks_bytes, Fits, AllFit, BodyOf}
 use Rattle.terms.specs.declared.TimeRule.{TimeRule}
-use Rattle.body.specs.declared.Opened.TheVariants.{Shaped}
 use Rattle.body.specs.declared.Form.{Form}
 use Rattle.body.specs.declared.Form.TheVariants.{Stamped}
 use Rattle.builder.specs.Build.{stamped, form_by, form_of, counts, makes, open_step, open_word, grown, draft_added, add_step, entry_of, close_step, counter_bytes, buf_after, step_told, entries_after}
 use Rattle.builder.specs.Run.{Built, closed_body}
 use Rattle.builder.specs.declared.Draft.{Draft}
-use Rattle.builder.specs.declared.Step.{Step}
-use Rattle.builder.specs.declared.Step.TheVariants.{Done, Denied}
 use Rattle.builder.proofs.Drafts.{draft_facts, draft_good, block_facts, open_done, add_done, close_done, close_told, open_denied, add_denied, close_denied, buf_put}
+use Rattle.terms.specs.declared.Refusal.{Refusal}
 
 -- ---- what is added
 
@@ -95,7 +93,7 @@ module _ (bs rest : List ℕ) (w : ℕ) (e : bs ≡ bytes_of 4 w ++ rest) where
   word_read h = rw (e, take_at (bytes_of 4 w) rest 4 (length_bytes_of 4 w)) (num_bytes_of 4 w h)
 
   message_opened_lem : (rule : TimeRule) (form : Form) → form ≡ Stamped → 0 < w → w < 2 ^ 16
-      → open_body 0x30 rule bs ≡ Shaped (record { form = form; counted = true; count = w; rule = rule })
+      → open_body 0x30 rule bs ≡ Shaped (record { form = form; count = Some w; rule = rule })
   unfolding open_body message_shape
   message_opened_lem rule form stored more few =
       let kind : w / 2 ^ 16 ≡ 0 = omega arith in
@@ -103,7 +101,7 @@ module _ (bs rest : List ℕ) (w : ℕ) (e : bs ≡ bytes_of 4 w ++ rest) where
       simp (word_long, word_read (omega arith), kind, counter, lt-ltb w (2 ^ 18) (omega arith), lt-ltb 0 w more, lt-ltb w (2 ^ 16) few, stored)
 
   uart_opened : (rule : TimeRule) (st : Bool) → w ≡ pick st (2 ^ 31) 0
-      → open_body 0x50 rule bs ≡ Shaped (record { form = form_by st; counted = false; count = 0; rule = rule })
+      → open_body 0x50 rule bs ≡ Shaped (record { form = form_by st; count = None; rule = rule })
   unfolding open_body uart_shape
   uart_opened rule true is = simp (word_long, word_read (omega arith), is)
   uart_opened rule false is = simp (word_long, word_read (omega arith), is)
@@ -112,25 +110,25 @@ module _ (bs rest : List ℕ) (w : ℕ) (e : bs ≡ bytes_of 4 w ++ rest) where
 module _ (rule : TimeRule) (bs : List ℕ) (es : List Entry) (w : ℕ) (form : Form) (e : bs ≡ bytes_of 4 w ++ blocks_bytes form es)
     (more : 0 < length es) (fit : AllFit form rule es) where
   -- where the word counts the blocks
-  counted_body : (kind : ℕ) → open_body kind rule bs ≡ Shaped (record { form = form; counted = true; count = w; rule = rule }) → w ≡ length es
+  counted_body : (kind : ℕ) → open_body kind rule bs ≡ Shaped (record { form = form; count = Some w; rule = rule }) → w ≡ length es
       → BodyOf kind rule bs es
   counted_body kind opened counter =
       record {
-        shape = record { form = form; counted = true; count = w; rule = rule };
+        shape = record { form = form; count = Some w; rule = rule };
         opened = opened;
-        counted = λ _. sym counter;
+        counted = λ n e. let same : w ≡ n = cc in omega (arith, same, counter);
         some = more;
         is = word_front bs (blocks_bytes form es) w e;
         fit = fit;
       }
 
   -- where the blocks go to the end
-  open_ended_body : (kind : ℕ) → open_body kind rule bs ≡ Shaped (record { form = form; counted = false; count = 0; rule = rule }) → BodyOf kind rule bs es
+  open_ended_body : (kind : ℕ) → open_body kind rule bs ≡ Shaped (record { form = form; count = None; rule = rule }) → BodyOf kind rule bs es
   open_ended_body kind opened =
       record {
-        shape = record { form = form; counted = false; count = 0; rule = rule };
+        shape = record { form = form; count = None; rule = rule };
         opened = opened;
-        counted = λ t. let z : ◌≡◌ {A = ℕ} 0 1 = cc in absurd (omega arith);
+        counted = λ n e. let z : ◌≡◌ {A = ℕ} 0 1 = cc in absurd (omega arith);
         some = more;
         is = word_front bs (blocks_bytes form es) w e;
         fit = fit;
@@ -261,9 +259,9 @@ module _ (buf : List ℕ) (d : Draft) (es : List Entry) (kept : Kept buf d es) w
       vs : List ℕ
       vs = bytes_of 4 (open_word kind rule)
 
-      go : (s : Step) → open_step d kind rule (length buf) ≡ s → Kept (buf_after s buf 0 vs) (step_told s).draft (entries_after s [] es)
-      go (Denied r d') e = back d' (open_denied d kind rule (length buf) r d' e)
-      go (Done d') e =
+      go : (s : Result Draft (Refusal × Draft)) → open_step d kind rule (length buf) ≡ s → Kept (buf_after s buf 0 vs) (step_told s).draft (entries_after s [] es)
+      go (Err (r, d')) e = back d' (open_denied d kind rule (length buf) r d' e)
+      go (Ok d') e =
           let p = open_done d kind rule (length buf) d' e in
           ((λ _. subst (λ (x : Draft). Grown (splice buf 0 vs) x []) (sym p.2) (open_grown buf kind rule p.0 p.1)), λ h. absurd (omega arith))
 
@@ -280,9 +278,9 @@ module _ (buf : List ℕ) (d : Draft) (es : List Entry) (kept : Kept buf d es) w
       vs : List ℕ
       vs = block_bytes (form_of d) entry
 
-      go : (s : Step) → add_step d (length buf) time (length bytes) ≡ s → Kept (buf_after s buf d.used vs) (step_told s).draft (entries_after s (es ++ (entry ∷ [])) es)
-      go (Denied r d') e = back d' (add_denied d (length buf) time (length bytes) r d' e)
-      go (Done d') e =
+      go : (s : Result Draft (Refusal × Draft)) → add_step d (length buf) time (length bytes) ≡ s → Kept (buf_after s buf d.used vs) (step_told s).draft (entries_after s (es ++ (entry ∷ [])) es)
+      go (Err (r, d')) e = back d' (add_denied d (length buf) time (length bytes) r d' e)
+      go (Ok d') e =
           let p = add_done d (length buf) time (length bytes) d' e in
           let f = draft_facts d (length buf) p.0 in
           let n = block_facts d (length bytes) p.1 in
@@ -295,9 +293,9 @@ module _ (buf : List ℕ) (d : Draft) (es : List Entry) (kept : Kept buf d es) w
   unfolding buf_after
   close_kept = go (close_step d (length buf)) refl
     where
-      go : (s : Step) → close_step d (length buf) ≡ s → Kept (buf_after s buf 0 (counter_bytes d)) (step_told s).draft es
-      go (Denied r d') e = back d' (close_denied d (length buf) r d' e)
-      go (Done d') e =
+      go : (s : Result Draft (Refusal × Draft)) → close_step d (length buf) ≡ s → Kept (buf_after s buf 0 (counter_bytes d)) (step_told s).draft es
+      go (Err (r, d')) e = back d' (close_denied d (length buf) r d' e)
+      go (Ok d') e =
           let p = close_done d (length buf) d' e in
           let f = draft_facts d (length buf) p.0 in
           ((λ _. subst (λ (x : Draft). Grown (splice buf 0 (counter_bytes d)) x es) (sym p.2) (close_grown buf d es (kept.0 f.1))), λ h. rw p.2 (kept.1 h))
@@ -352,10 +350,10 @@ grown_body buf d es rule g more same = go (counts d.kind) refl
 
     -- the word's shape where blocks are counted, by the type
     counted_opened : counts d.kind ≡ true → 0 < word → word < 2 ^ 16
-        → open_body d.kind rule bs ≡ Shaped (record { form = form_of d; counted = true; count = word; rule = rule })
+        → open_body d.kind rule bs ≡ Shaped (record { form = form_of d; count = Some word; rule = rule })
     counted_opened t some few =
         let k : d.kind ≡ 0x30 = eqb-true d.kind 0x30 t in
-        subst (λ (n : ℕ). open_body n rule bs ≡ Shaped (record { form = form_of d; counted = true; count = word; rule = rule })) (sym k)
+        subst (λ (n : ℕ). open_body n rule bs ≡ Shaped (record { form = form_of d; count = Some word; rule = rule })) (sym k)
         (message_opened_lem bs (blocks_bytes (form_of d) es) word bytes rule (form_of d) (rw (made_message d.kind d.rule g.made k)) some few)
 
     go : (t : Bool) → counts d.kind ≡ t → BodyOf d.kind rule bs es
@@ -367,7 +365,7 @@ grown_body buf d es rule g more same = go (counts d.kind) refl
         let k : d.kind ≡ 0x50 = made_uart d.kind d.rule g.made t in
         let kept : word ≡ g.word = rw t in
         open_ended_body rule bs es word (form_of d) bytes enough all d.kind
-        (subst (λ (n : ℕ). open_body n rule bs ≡ Shaped (record { form = form_of d; counted = false; count = 0; rule = rule })) (sym k) (uart_opened bs (blocks_bytes (form_of d) es) word bytes rule st (kept ∙ g.word_is t ∙ uart_word d.kind d.rule k)))
+        (subst (λ (n : ℕ). open_body n rule bs ≡ Shaped (record { form = form_of d; count = None; rule = rule })) (sym k) (uart_opened bs (blocks_bytes (form_of d) es) word bytes rule st (kept ∙ g.word_is t ∙ uart_word d.kind d.rule k)))
 
 -- what is built step by step and closed last is the body of the blocks added, under its time rule, or any where no time is stored
 pub built_body : {buf : List ℕ} {d : Draft} {es : List Entry} (rule : TimeRule) → Built buf d es → (step_told (close_step d (length buf))).refusal.number ≡ 0
@@ -386,7 +384,7 @@ unfolding blocks_bytes
 some_bytes form e es = omega (arith, length-append (block_bytes form e) (blocks_bytes form es), length_block_bytes form e)
 
 -- once a block is added, closing is done
-pub some_closes : {buf : List ℕ} {d : Draft} {e : Entry} {es : List Entry} → Built buf d (e ∷ es) → close_step d (length buf) ≡ Done d
+pub some_closes : {buf : List ℕ} {d : Draft} {e : Entry} {es : List Entry} → Built buf d (e ∷ es) → close_step d (length buf) ≡ Ok d
 unfolding close_step
 some_closes {buf} {d} {e} {es} b =
     let k = built_kept b in

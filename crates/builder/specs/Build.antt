@@ -1,5 +1,5 @@
 -- The body builder (document 01, "Builder"): what each step says, the state it hands back, and the bytes it leaves in its buffer.
-use Rattle.std.specs.Prelude.{ℕ, ◌+◌, ◌*◌, ◌%◌, ◌^◌, Bool, not, ◌&&◌, ◌||◌, List, [], length, ◌==◌, nat_le, nat_lt}
+use Rattle.std.specs.Prelude.{ℕ, ◌+◌, ◌*◌, ◌%◌, ◌^◌, Bool, not, ◌&&◌, ◌||◌, List, [], length, ◌==◌, nat_le, nat_lt, Result, Ok, Err}
 use Rattle.units.specs.Units.{bytes_of, splice}
 use Rattle.units.specs.Choice.{pick}
 use Rattle.terms.specs.Times.{time_ok, rule_of}
@@ -10,8 +10,6 @@ use Rattle.body.specs.Blocks.{Entry}
 use Rattle.body.specs.declared.Form.{Form}
 use Rattle.body.specs.declared.Form.TheVariants.{Stamped, Plain}
 use Rattle.builder.specs.declared.Draft.{Draft}
-use Rattle.builder.specs.declared.Step.{Step}
-use Rattle.builder.specs.declared.Step.TheVariants.{Done, Denied}
 
 -- ---- the state
 
@@ -45,11 +43,15 @@ form_of d = form_by (stamped d.rule)
 
 -- ---- opening: 17, then 16; the place of every refusal is 0, and a refused step hands back the state it was given
 
-unfoldable pub open_step : Draft → ℕ → ℕ → ℕ → Step
+-- a step that is refused hands the state it was given back
+abbrev pub denied : Refusal → Draft → Result Draft (Refusal × Draft)
+denied r d = Err (r, d)
+
+unfoldable pub open_step : Draft → ℕ → ℕ → ℕ → Result Draft (Refusal × Draft)
 open_step d kind rule len =
-    pick (not (makes kind rule)) (Denied (refused 17 0) d)
-    (pick (nat_lt len 4) (Denied (needing 4 (refused 16 0)) d)
-    (Done (record { used = 4; blocks = 0; kind = kind; rule = rule })))
+    pick (not (makes kind rule)) (denied (refused 17 0) d)
+    (pick (nat_lt len 4) (denied (needing 4 (refused 16 0)) d)
+    (Ok (record { used = 4; blocks = 0; kind = kind; rule = rule })))
 
 -- the channel word: counter 0 in 0x30; bit 31 in 0x50 where times are stored
 abbrev pub open_word : ℕ → ℕ → ℕ
@@ -76,14 +78,14 @@ grown d n = d.used + block_size (form_of d) n
 unfoldable pub draft_added : Draft → ℕ → Draft
 draft_added d n = record { used = grown d n; blocks = (d.blocks + 1) % 2 ^ 64; kind = d.kind; rule = d.rule }
 
-unfoldable pub add_step : Draft → ℕ → ℕ → ℕ → Step
+unfoldable pub add_step : Draft → ℕ → ℕ → ℕ → Result Draft (Refusal × Draft)
 add_step d len time n =
-    pick (bad_draft d len) (Denied (refused 1 0) d)
-    (pick (bad_block d n) (Denied (refused 17 0) d)
-    (pick (bad_time d.rule time) (Denied (fault 0 3) d)
-    (pick (stray_time d.rule time) (Denied (refused 17 0) d)
-    (pick (nat_lt len (grown d n)) (Denied (needing (grown d n) (refused 16 0)) d)
-    (Done (draft_added d n))))))
+    pick (bad_draft d len) (denied (refused 1 0) d)
+    (pick (bad_block d n) (denied (refused 17 0) d)
+    (pick (bad_time d.rule time) (denied (fault 0 3) d)
+    (pick (stray_time d.rule time) (denied (refused 17 0) d)
+    (pick (nat_lt len (grown d n)) (denied (needing (grown d n) (refused 16 0)) d)
+    (Ok (draft_added d n))))))
 
 -- the block: the time, the ID word made of its upper half and n, and the n bytes
 abbrev pub entry_of : ℕ → ℕ → List ℕ → Entry
@@ -91,11 +93,11 @@ entry_of time upper bytes = record { time = time; id = upper * 2 ^ 16 + length b
 
 -- ---- closing: 1, then 15 where the used count is 4; its reason is 7, the body ends where a block must begin
 
-unfoldable pub close_step : Draft → ℕ → Step
+unfoldable pub close_step : Draft → ℕ → Result Draft (Refusal × Draft)
 close_step d len =
-    pick (bad_draft d len) (Denied (refused 1 0) d)
-    (pick (d.used == 4) (Denied (fault 0 7) d)
-    (Done d))
+    pick (bad_draft d len) (denied (refused 1 0) d)
+    (pick (d.used == 4) (denied (fault 0 7) d)
+    (Ok d))
 
 -- the counter in 0x30, nothing in 0x50
 abbrev pub counter_bytes : Draft → List ℕ
@@ -108,16 +110,16 @@ pub record StepTold : Type 0 where
   pub refusal : Refusal
   pub draft : Draft
 
-abbrev pub step_told : Step → StepTold
-step_told (Done d) = record { refusal = no_refusal; draft = d }
-step_told (Denied r d) = record { refusal = r; draft = d }
+abbrev pub step_told : Result Draft (Refusal × Draft) → StepTold
+step_told (Ok d) = record { refusal = no_refusal; draft = d }
+step_told (Err (r, d)) = record { refusal = r; draft = d }
 
 -- the buffer: vs written at `at` where the step is done, else untouched
-unfoldable pub buf_after : Step → List ℕ → ℕ → List ℕ → List ℕ
-buf_after (Done d) old at vs = splice old at vs
-buf_after (Denied r d) old at vs = old
+unfoldable pub buf_after : Result Draft (Refusal × Draft) → List ℕ → ℕ → List ℕ → List ℕ
+buf_after (Ok d) old at vs = splice old at vs
+buf_after (Err r) old at vs = old
 
 -- the blocks that count as added: where the step is done, these; else those before it
-abbrev pub entries_after : Step → List Entry → List Entry → List Entry
-entries_after (Done d) done before = done
-entries_after (Denied r d) done before = before
+abbrev pub entries_after : Result Draft (Refusal × Draft) → List Entry → List Entry → List Entry
+entries_after (Ok d) done before = done
+entries_after (Err r) done before = before

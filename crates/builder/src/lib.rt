@@ -1,5 +1,6 @@
 // The body builder: makes 0x30 (type 00) and 0x50 bodies in a lent buffer.
-// A body's state goes into each step by value and comes back, also from a refused step, which leaves the buffer as it was.
+// A body's state goes into each step by value and comes back: the new one, or beside a refusal the one given; a refused step leaves
+// the buffer as it was.
 #![tactic(auto)]
 
 ghost use Rattle.std.specs.Prelude.{◌≡◌, ◌+◌, ◌^◌, ◌<◌, ◌≤◌, length};
@@ -9,26 +10,19 @@ ghost use Rattle.body.specs.Walk.{stamp_length, block_size};
 ghost use Rattle.builder.specs.Build.{form_of, counts, makes, bad_draft, fresh_draft, open_step, open_word, bad_block, bad_time, stray_time, grown, add_step, entry_of, close_step, counter_bytes, buf_after};
 
 use body::Form;
-use body::walk::stamp_length;
-use terms::time::{rule_of, time_ok};
-use terms::{Refusal, fault, no_room, refuse};
-use units::{clear_at, copy_at, put16, put32, put64};
+use terms::time::time_ok;
+use terms::{Number, Reason, Refusal, TimeRule, fault, no_room, refuse};
+use units::{InBytes, clear_at, copy_at};
 
 // A body that is being built: its bytes used so far, its blocks, its type and its time rule
-// (0 none, 1 a counter below 2^48, 2 Chapter 4, 3 IEEE 1588, 4 extended counter).
+// (0 none, 1 a counter below 2^48, 2 Chapter 4, 3 IEEE 1588, 4 extended counter). Type and rule are any bytes: those that are none are
+// answered with 1 and 17 (`bad_draft`, `open_step`).
 #[derive(Clone, Copy)]
 pub struct Draft {
     pub used: usize,
     pub blocks: u64,
     pub kind: u8,
     pub rule: u8,
-}
-
-// What a step says: done, with the new state; or denied, with the state it was given.
-#[derive(Clone, Copy)]
-pub enum Step {
-    Done(Draft),
-    Denied(Refusal, Draft),
 }
 
 impl Draft {
@@ -46,18 +40,18 @@ impl Draft {
 
     // Opens a body of this type and time rule at the buffer's first byte: its channel word, counter 0.
     // 17 for another type, a reserved time format or no rule in 0x30, then 16. The state given has no say.
-    pub fn open(self, buf: &mut [u8], kind: u8, rule: u8) -> Step
+    pub fn open(self, buf: &mut [u8], kind: u8, rule: u8) -> Result<Draft, (Refusal, Draft)>
         ensures value { result ≡ open_step self kind rule (length buf.old) }
         ensures buf_after { buf.new ≡ buf_after result buf.old 0 (bytes_of 4 (open_word kind rule)) }
     {
         if !makes_body(kind, rule) {
-            return Step::Denied(refuse(17, 0), self);
+            return Err((refuse(Number::Range, 0), self));
         }
         if buf.len() < 4 {
-            return Step::Denied(no_room(0, 4), self);
+            return Err((no_room(0, 4), self));
         }
-        put32(buf, 0, open_word(kind, rule));
-        Step::Done(Draft {
+        u32::put(buf, 0, open_word(kind, rule));
+        Ok(Draft {
             used: 4,
             blocks: 0,
             kind,
@@ -67,36 +61,100 @@ impl Draft {
 
     // Adds a block: its time (0 where none is stored), the upper half of its ID word, and its bytes.
     // 1, then 17, then 15 for a time out of form (17 for a time where none is stored), then 16.
-    pub fn add(self, buf: &mut [u8], time: u64, upper: u16, bytes: &[u8]) -> Step
+    pub fn add(
+        self,
+        buf: &mut [u8],
+        time: u64,
+        upper: u16,
+        bytes: &[u8],
+    ) -> Result<Draft, (Refusal, Draft)>
         ensures value { result ≡ add_step self (length buf.old) time (length bytes.now) }
         ensures buf_after { buf.new ≡ buf_after result buf.old self.used (block_bytes (form_of self) (entry_of time upper bytes.now)) }
     {
-        let step = judge_add(self, buf.len(), time, bytes.len());
-        match step {
-            Step::Done(_) => {
-                let at = self.used;
-                put_block(buf, at, form_of(self), time, upper, bytes);
-                step
-            }
-            Step::Denied(_, _) => step,
-        }
+        let added = self.judge_add(buf.len(), time, bytes.len())?;
+        put_block(buf, self.used, self.form(), time, upper, bytes);
+        Ok(added)
     }
 
     // Closes a body: writes the counter in 0x30, nothing in 0x50. 1, then 15 where there is no block.
-    pub fn close(self, buf: &mut [u8]) -> Step
+    pub fn close(self, buf: &mut [u8]) -> Result<Draft, (Refusal, Draft)>
         ensures value { result ≡ close_step self (length buf.old) }
         ensures buf_after { buf.new ≡ buf_after result buf.old 0 (counter_bytes self) }
     {
-        if bad_draft(self, buf.len()) {
-            return Step::Denied(refuse(1, 0), self);
+        if self.is_bad(buf.len()) {
+            return Err((refuse(Number::State, 0), self));
         }
         if self.used == 4 {
-            return Step::Denied(fault(0, 7), self);
+            return Err((fault(0, Reason::Missing), self));
         }
         if counts_blocks(self.kind) {
-            put16(buf, 0, (self.blocks % 0x1_0000) as u16);
+            u16::put(buf, 0, (self.blocks % 0x1_0000) as u16);
         }
-        Step::Done(self)
+        Ok(self)
+    }
+
+    // Whether the state is refused with 1, in a buffer of this length.
+    fn is_bad(self, len: usize) -> bool
+        ensures { result ≡ bad_draft self len }
+    {
+        (len < self.used)
+            | (self.used < 4)
+            | !makes_body(self.kind, self.rule)
+            | (counts_blocks(self.kind) & (65535 < self.blocks))
+    }
+
+    // Whether a block of n bytes is refused with 17.
+    fn bad_block(self, n: usize) -> bool
+        ensures { result ≡ bad_block self n }
+    {
+        (n == 0) | (65535 < n) | (counts_blocks(self.kind) & (65535 <= self.blocks))
+    }
+
+    // The form of the body's blocks: times are stored where there is a rule.
+    fn form(self) -> Form
+        ensures { result ≡ form_of self }
+    {
+        if 0 < self.rule {
+            Form::Stamped
+        } else {
+            Form::Plain
+        }
+    }
+
+    // The used count with a block of n bytes more.
+    fn used_after(self, n: usize) -> usize
+        requires { (self.used < 2 ^ 63) × (n < 2 ^ 16) }
+        ensures { result ≡ grown self n }
+    {
+        self.used + (self.form().stamp_length() + 4 + n + n % 2)
+    }
+
+    // The state after a block of n bytes is added in a buffer of this length.
+    fn judge_add(self, len: usize, time: u64, n: usize) -> Result<Draft, (Refusal, Draft)>
+        requires { len < 2 ^ 63 }
+        ensures { result ≡ add_step self len time n }
+    {
+        if self.is_bad(len) {
+            return Err((refuse(Number::State, 0), self));
+        }
+        if self.bad_block(n) {
+            return Err((refuse(Number::Range, 0), self));
+        }
+        if bad_time(self.rule, time) {
+            return Err((fault(0, Reason::Time), self));
+        }
+        if stray_time(self.rule, time) {
+            return Err((refuse(Number::Range, 0), self));
+        }
+        let used = self.used_after(n);
+        if len < used {
+            return Err((no_room(0, used), self));
+        }
+        Ok(Draft {
+            used,
+            blocks: self.blocks.wrapping_add(1),
+            ..self
+        })
     }
 }
 
@@ -114,16 +172,6 @@ fn counts_blocks(kind: u8) -> bool
     kind == 0x30
 }
 
-// Whether a state is refused with 1, in a buffer of this length.
-fn bad_draft(draft: Draft, len: usize) -> bool
-    ensures { result ≡ bad_draft draft len }
-{
-    (len < draft.used)
-        | (draft.used < 4)
-        | !makes_body(draft.kind, draft.rule)
-        | (counts_blocks(draft.kind) & (65535 < draft.blocks))
-}
-
 // The channel word that opening writes.
 fn open_word(kind: u8, rule: u8) -> u32
     ensures { result ≡ open_word kind rule }
@@ -135,18 +183,11 @@ fn open_word(kind: u8, rule: u8) -> u32
     }
 }
 
-// Whether a block of n bytes is refused with 17.
-fn bad_block(draft: Draft, n: usize) -> bool
-    ensures { result ≡ bad_block draft n }
-{
-    (n == 0) | (65535 < n) | (counts_blocks(draft.kind) & (65535 <= draft.blocks))
-}
-
 // Whether a time that is stored is out of form: 15.
 fn bad_time(rule: u8, time: u64) -> bool
     ensures { result ≡ bad_time rule time }
 {
-    (0 < rule) & !time_ok(rule_of(rule), time)
+    (0 < rule) & !time_ok(TimeRule::from(rule), time)
 }
 
 // Whether a time is given where none is stored: 17.
@@ -156,61 +197,13 @@ fn stray_time(rule: u8, time: u64) -> bool
     !(0 < rule) & !(time == 0)
 }
 
-// The form of a body's blocks: times are stored where there is a rule.
-fn form_of(draft: Draft) -> Form
-    ensures { result ≡ form_of draft }
-{
-    if 0 < draft.rule {
-        Form::Stamped
-    } else {
-        Form::Plain
-    }
-}
-
-// The used count with a block of n bytes more.
-fn used_after(draft: Draft, n: usize) -> usize
-    requires { (draft.used < 2 ^ 63) × (n < 2 ^ 16) }
-    ensures { result ≡ grown draft n }
-{
-    draft.used + (stamp_length(form_of(draft)) + 4 + n + n % 2)
-}
-
-// What adding a block of n bytes in a buffer of this length says, and the state after it.
-fn judge_add(draft: Draft, len: usize, time: u64, n: usize) -> Step
-    requires { len < 2 ^ 63 }
-    ensures { result ≡ add_step draft len time n }
-{
-    if bad_draft(draft, len) {
-        return Step::Denied(refuse(1, 0), draft);
-    }
-    if bad_block(draft, n) {
-        return Step::Denied(refuse(17, 0), draft);
-    }
-    if bad_time(draft.rule, time) {
-        return Step::Denied(fault(0, 3), draft);
-    }
-    if stray_time(draft.rule, time) {
-        return Step::Denied(refuse(17, 0), draft);
-    }
-    let used = used_after(draft, n);
-    if len < used {
-        return Step::Denied(no_room(0, used), draft);
-    }
-    Step::Done(Draft {
-        used,
-        blocks: std::num::wrapping_add_u64(draft.blocks, 1),
-        kind: draft.kind,
-        rule: draft.rule,
-    })
-}
-
 // Writes the time stamp of a block, if it has one.
 fn put_stamp(buf: &mut [u8], at: usize, form: Form, time: u64)
     requires { at + stamp_length form ≤ length buf.old }
     ensures { buf.new ≡ splice buf.old at (bytes_of (stamp_length form) time) }
 {
     match form {
-        Form::Stamped => put64(buf, at, time),
+        Form::Stamped => u64::put(buf, at, time),
         Form::Plain => (),
     }
 }
@@ -220,10 +213,10 @@ fn put_block(buf: &mut [u8], at: usize, form: Form, time: u64, upper: u16, bytes
     requires { (length bytes.now < 2 ^ 16) × (at + block_size form (length bytes.now) ≤ length buf.old) }
     ensures { buf.new ≡ splice buf.old at (block_bytes form (entry_of time upper bytes.now)) }
 {
-    let head = at + stamp_length(form);
+    let head = at + form.stamp_length();
     let n = bytes.len();
     put_stamp(buf, at, form, time);
-    put32(buf, head, (upper as u32) * 0x1_0000 + (n as u32));
+    u32::put(buf, head, (upper as u32) * 0x1_0000 + (n as u32));
     copy_at(buf, head + 4, bytes);
     clear_at(buf, head + 4 + n, n % 2);
 }

@@ -1,4 +1,5 @@
 -- What the writer and the builder's steps say of words, from what they say of narrower numbers.
+use Rattle.std.specs.Prelude.{Result, Ok, Err, Some, None}
 use mathlib.Core.Path.{◌≡◌, refl, sym, ap, ◌∙◌}
 use mathlib.Core.List.{List, [], ◌∷◌}
 use mathlib.Core.Bool.{Bool, true, false, not, ◌&&◌, ◌||◌}
@@ -16,17 +17,13 @@ use Rattle.units.proofs.Choices.{or_true, or_false, and_true}
 use Rattle.terms.specs.Refusals.{refused, needing}
 use Rattle.terms.specs.declared.Refusal.{Refusal}
 use Rattle.body.specs.Blocks.{block_bytes}
-use Rattle.builder.specs.Build.{counts, makes, stamped, bad_draft, form_of, fresh_draft, open_step, add_step, entry_of, close_step, buf_after, step_told}
-use Rattle.builder.proofs.Drafts.{not_done, buf_kept}
+use Rattle.builder.specs.Build.{denied, counts, makes, stamped, bad_draft, form_of, fresh_draft, open_step, add_step, entry_of, close_step, buf_after, step_told}
+use Rattle.builder.proofs.Drafts.{not_done, denied_same, buf_kept}
 use Rattle.builder.specs.declared.Draft.{Draft}
-use Rattle.builder.specs.declared.Step.{Step}
-use Rattle.builder.specs.declared.Step.TheVariants.{Done, Denied}
 use Rattle.frame.specs.Contents.{contents}
 use Rattle.frame.specs.declared.Fields.{Fields}
 use Rattle.packet_bytes.specs.Bytes.{packet_bytes}
 use Rattle.packet.specs.Write.{write_packet, out_after}
-use Rattle.packet.specs.declared.PacketWrite.{PacketWrite}
-use Rattle.packet.specs.declared.PacketWrite.TheVariants.{Unwritten}
 use Rattle.ch11_words.specs.Words.{refusal_size, state_words, draft_words}
 use Rattle.ch11.specs.Given.{fields_fit, write_given, draft_of, add_given}
 
@@ -40,6 +37,15 @@ state_kept ws l =
 
 -- ---- the writer: a field that can hold its value
 
+-- what is taken from words is there unless they are too wide
+pub taken : {A : Type 0} (t : Bool) (x y : A) → pick t None (Some x) ≡ Some y → (t ≡ false) × (y ≡ x)
+taken true x y e = let z : ◌≡◌ {A = ℕ} 0 1 = cc in absurd (omega arith)
+taken false x y e = (refl, cc)
+
+pub not_taken : {A : Type 0} (t : Bool) (x : A) → pick t None (Some x) ≡ None → t ≡ true
+not_taken true x e = refl
+not_taken false x e = let z : ◌≡◌ {A = ℕ} 0 1 = cc in absurd (omega arith)
+
 pub fits : (f : Fields) → fields_fit f ≡ true
     → (f.channel < 2 ^ 16) × (f.version < 256) × (f.sequence < 256) × (f.flags < 256) × (f.kind < 256)
 fits f e =
@@ -49,11 +55,11 @@ fits f e =
     let s = and_true (ltb f.channel (2 ^ 16)) (ltb f.version 256) r.0 in
     (ltb-true f.channel (2 ^ 16) s.0, ltb-true f.version 256 s.1, ltb-true f.sequence 256 r.1, ltb-true f.flags 256 q.1, ltb-true f.kind 256 p.1)
 
-pub unfit : (f : Fields) (body : List ℕ) (room : ℕ) (b : Bool) (r : Refusal) → b ≡ fields_fit f → not b ≡ true → r ≡ refused 17 0 → Unwritten r ≡ write_given (contents f body) room
+pub unfit : (f : Fields) (body : List ℕ) (room : ℕ) (b : Bool) (r : Refusal) → b ≡ fields_fit f → not b ≡ true → r ≡ refused 17 0 → Err r ≡ write_given (contents f body) room
 unfolding write_given
 unfit f body room b r is e q = let wide : not (fields_fit f) ≡ true = ap not (sym is) ∙ e in rw (q, wide)
 
-pub fit_as : (g f : Fields) (body : List ℕ) (room : ℕ) (b : Bool) (x : PacketWrite) (old new : List ℕ) → b ≡ fields_fit f → not b ≡ false → g ≡ f → x ≡ write_packet (contents g body) room
+pub fit_as : (g f : Fields) (body : List ℕ) (room : ℕ) (b : Bool) (x : Result ℕ Refusal) (old new : List ℕ) → b ≡ fields_fit f → not b ≡ false → g ≡ f → x ≡ write_packet (contents g body) room
     → new ≡ out_after x old (packet_bytes (contents g body)) → (x ≡ write_given (contents f body) room) × (new ≡ out_after x old (packet_bytes (contents f body)))
 unfolding write_given
 fit_as g f body room b x old new is e q says out =
@@ -82,7 +88,7 @@ over_makes kind rule e = go (or_true (ltb 255 kind) (ltb 255 rule) e)
         let a : ltb rule 5 ≡ false = le-ltb rule 5 (omega arith) in
         ends ((eqb kind 0x30 && stamped rule) || eqb kind 0x50) (ltb rule 5) a
 
-pub over_open : (d : Draft) (kind rule len : ℕ) → (ltb 255 kind || ltb 255 rule) ≡ true → open_step d kind rule len ≡ Denied (refused 17 0) d
+pub over_open : (d : Draft) (kind rule len : ℕ) → (ltb 255 kind || ltb 255 rule) ≡ true → open_step d kind rule len ≡ denied (refused 17 0) d
 unfolding open_step
 over_open d kind rule len e = rw (over_makes kind rule e)
 
@@ -93,11 +99,11 @@ one_of false b c e = rw (e)
 pub over_draft : (d : Draft) (len : ℕ) → (ltb 255 d.kind || ltb 255 d.rule) ≡ true → bad_draft d len ≡ true
 over_draft d len e = one_of (ltb len d.used || ltb d.used 4) (not (makes d.kind d.rule)) (counts d.kind && ltb 65535 d.blocks) (ap not (over_makes d.kind d.rule e))
 
-pub over_add : (d : Draft) (len time upper n : ℕ) → (ltb 255 d.kind || ltb 255 d.rule) ≡ true → add_given d len time upper n ≡ Denied (refused 1 0) d
+pub over_add : (d : Draft) (len time upper n : ℕ) → (ltb 255 d.kind || ltb 255 d.rule) ≡ true → add_given d len time upper n ≡ denied (refused 1 0) d
 unfolding add_given
 over_add d len time upper n e = rw (over_draft d len e)
 
-pub over_close : (d : Draft) (len : ℕ) → (ltb 255 d.kind || ltb 255 d.rule) ≡ true → close_step d len ≡ Denied (refused 1 0) d
+pub over_close : (d : Draft) (len : ℕ) → (ltb 255 d.kind || ltb 255 d.rule) ≡ true → close_step d len ≡ denied (refused 1 0) d
 unfolding close_step
 over_close d len e = rw (over_draft d len e)
 
@@ -107,31 +113,31 @@ in_byte kind rule e = let p = or_false (ltb 255 kind) (ltb 255 rule) e in (ltb-f
 
 -- ---- opening does not look at the state
 
-pub open_any : (d : Draft) (kind rule len : ℕ) (d' : Draft) → open_step fresh_draft kind rule len ≡ Done d' → open_step d kind rule len ≡ Done d'
+pub open_any : (d : Draft) (kind rule len : ℕ) (d' : Draft) → open_step fresh_draft kind rule len ≡ Ok d' → open_step d kind rule len ≡ Ok d'
 unfolding open_step
 open_any d kind rule len d' e = go (makes kind rule) (ltb len 4) e
   where
-    opened : Step
-    opened = Done (record { used = 4; blocks = 0; kind = kind; rule = rule })
+    opened : Result Draft (Refusal × Draft)
+    opened = Ok (record { used = 4; blocks = 0; kind = kind; rule = rule })
 
-    go : (m t : Bool) → pick (not m) (Denied (refused 17 0) fresh_draft) (pick t (Denied (needing 4 (refused 16 0)) fresh_draft) opened) ≡ Done d'
-        → pick (not m) (Denied (refused 17 0) d) (pick t (Denied (needing 4 (refused 16 0)) d) opened) ≡ Done d'
+    go : (m t : Bool) → pick (not m) (denied (refused 17 0) fresh_draft) (pick t (denied (needing 4 (refused 16 0)) fresh_draft) opened) ≡ Ok d'
+        → pick (not m) (denied (refused 17 0) d) (pick t (denied (needing 4 (refused 16 0)) d) opened) ≡ Ok d'
     go true true q = absurd (not_done _ fresh_draft d' q)
     go true false q = q
     go false t q = absurd (not_done _ fresh_draft d' q)
 
-pub open_back : (d : Draft) (kind rule len : ℕ) (f : Refusal) (d' : Draft) → open_step fresh_draft kind rule len ≡ Denied f d' → open_step d kind rule len ≡ Denied f d
+pub open_back : (d : Draft) (kind rule len : ℕ) (f : Refusal) (d' : Draft) → open_step fresh_draft kind rule len ≡ denied f d' → open_step d kind rule len ≡ denied f d
 unfolding open_step
 open_back d kind rule len f d' e = go (makes kind rule) (ltb len 4) e
   where
     opened : Draft
     opened = record { used = 4; blocks = 0; kind = kind; rule = rule }
 
-    go : (m t : Bool) → pick (not m) (Denied (refused 17 0) fresh_draft) (pick t (Denied (needing 4 (refused 16 0)) fresh_draft) (Done opened)) ≡ Denied f d'
-        → pick (not m) (Denied (refused 17 0) d) (pick t (Denied (needing 4 (refused 16 0)) d) (Done opened)) ≡ Denied f d
-    go true true q = let same : needing 4 (refused 16 0) ≡ f = cc q in ap (λ (r : Refusal). Denied r d) same
+    go : (m t : Bool) → pick (not m) (denied (refused 17 0) fresh_draft) (pick t (denied (needing 4 (refused 16 0)) fresh_draft) (Ok opened)) ≡ denied f d'
+        → pick (not m) (denied (refused 17 0) d) (pick t (denied (needing 4 (refused 16 0)) d) (Ok opened)) ≡ denied f d
+    go true true q = let same : needing 4 (refused 16 0) ≡ f = ap (λ (p : Refusal × Draft). p.0) (denied_same _ _ q) in ap (λ (r : Refusal). denied r d) same
     go true false q = absurd (not_done f d' opened (sym q))
-    go false t q = let same : refused 17 0 ≡ f = cc q in ap (λ (r : Refusal). Denied r d) same
+    go false t q = let same : refused 17 0 ≡ f = ap (λ (p : Refusal × Draft). p.0) (denied_same _ _ q) in ap (λ (r : Refusal). denied r d) same
 
 -- ---- adding: the upper half
 
@@ -141,7 +147,7 @@ twice false x y = refl
 
 pub upper_fits : (d : Draft) (len time upper n : ℕ) → upper ≤ 65535 → add_step d len time n ≡ add_given d len time upper n
 unfolding add_given add_step
-upper_fits d len time upper n e = rw (le-ltb 65535 upper e) (twice (bad_draft d len) (Denied (refused 1 0) d) _)
+upper_fits d len time upper n e = rw (le-ltb 65535 upper e) (twice (bad_draft d len) (denied (refused 1 0) d) _)
 
 -- a block of no bytes is refused as an upper half that does not fit is
 pub upper_over : (d : Draft) (len time upper n : ℕ) → 65535 < upper → add_step d len time 0 ≡ add_given d len time upper n
@@ -153,53 +159,53 @@ pub upper_kept : (d : Draft) (len time upper n : ℕ) (old : List ℕ) (at : ℕ
 unfolding add_given buf_after
 upper_kept d len time upper n old at vs e = rw (lt-ltb 65535 upper e) (go (bad_draft d len))
   where
-    go : (t : Bool) → buf_after (pick t (Denied (refused 1 0) d) (Denied (refused 17 0) d)) old at vs ≡ old
+    go : (t : Bool) → buf_after (pick t (denied (refused 1 0) d) (denied (refused 17 0) d)) old at vs ≡ old
     go true = refl
     go false = refl
 
 -- ---- what a function here gives, from what those that it calls give
 
 -- words and buffer of a step that is refused with the state given
-pub refused_as : (s : Step) (f g : Refusal) (d : Draft) (words old : List ℕ) (at : ℕ) (vs : List ℕ) → words ≡ draft_words (step_told (Denied f d)) → f ≡ g
-    → s ≡ Denied g d → (words ≡ draft_words (step_told s)) × (old ≡ buf_after s old at vs)
+pub refused_as : (s : Result Draft (Refusal × Draft)) (f g : Refusal) (d : Draft) (words old : List ℕ) (at : ℕ) (vs : List ℕ) → words ≡ draft_words (step_told (denied f d)) → f ≡ g
+    → s ≡ denied g d → (words ≡ draft_words (step_told s)) × (old ≡ buf_after s old at vs)
 refused_as s f g d words old at vs w e q =
-    (w ∙ ap (λ (x : Refusal). draft_words (step_told (Denied x d))) e ∙ ap (λ (t : Step). draft_words (step_told t)) (sym q), buf_kept s g d old at vs q)
+    (w ∙ ap (λ (x : Refusal). draft_words (step_told (denied x d))) e ∙ ap (λ (t : Result Draft (Refusal × Draft)). draft_words (step_told t)) (sym q), buf_kept s (g, d) old at vs q)
 
 -- words and buffer of a step on the state e, which is d
-pub step_as : (step : Draft → Step) (at : Draft → ℕ) (vs : Draft → List ℕ) (e d : Draft) (s : Step) (words old new : List ℕ) → e ≡ d → s ≡ step e
+pub step_as : (step : Draft → Result Draft (Refusal × Draft)) (at : Draft → ℕ) (vs : Draft → List ℕ) (e d : Draft) (s : Result Draft (Refusal × Draft)) (words old new : List ℕ) → e ≡ d → s ≡ step e
     → words ≡ draft_words (step_told s) → new ≡ buf_after s old (at e) (vs e) → (words ≡ draft_words (step_told (step d))) × (new ≡ buf_after (step d) old (at d) (vs d))
 step_as step at vs e d s words old new q is w b =
     let stepped : s ≡ step d = is ∙ ap step q in
-    (w ∙ ap (λ (t : Step). draft_words (step_told t)) stepped, b ∙ ap (λ (x : Draft). buf_after s old (at x) (vs x)) q ∙ ap (λ (t : Step). buf_after t old (at d) (vs d)) stepped)
+    (w ∙ ap (λ (t : Result Draft (Refusal × Draft)). draft_words (step_told t)) stepped, b ∙ ap (λ (x : Draft). buf_after s old (at x) (vs x)) q ∙ ap (λ (t : Result Draft (Refusal × Draft)). buf_after t old (at d) (vs d)) stepped)
 
 -- opening, from what it says to a blank state
-module _ (blank d : Draft) (kind rule len : ℕ) (s : Step) (is-blank : blank ≡ fresh_draft) (is : s ≡ open_step blank kind rule len) where
+module _ (blank d : Draft) (kind rule len : ℕ) (s : Result Draft (Refusal × Draft)) (is-blank : blank ≡ fresh_draft) (is : s ≡ open_step blank kind rule len) where
   from_blank : s ≡ open_step fresh_draft kind rule len
   from_blank = is ∙ ap (λ (x : Draft). open_step x kind rule len) is-blank
 
-  pub opened_as : (d' : Draft) (words old new : List ℕ) (at : ℕ) (vs : List ℕ) → s ≡ Done d' → words ≡ draft_words (step_told s) → new ≡ buf_after s old at vs
+  pub opened_as : (d' : Draft) (words old new : List ℕ) (at : ℕ) (vs : List ℕ) → s ≡ Ok d' → words ≡ draft_words (step_told s) → new ≡ buf_after s old at vs
       → (words ≡ draft_words (step_told (open_step d kind rule len))) × (new ≡ buf_after (open_step d kind rule len) old at vs)
   opened_as d' words old new at vs done w b =
       let same : s ≡ open_step d kind rule len = done ∙ sym (open_any d kind rule len d' (sym from_blank ∙ done)) in
-      (w ∙ ap (λ (t : Step). draft_words (step_told t)) same, b ∙ ap (λ (t : Step). buf_after t old at vs) same)
+      (w ∙ ap (λ (t : Result Draft (Refusal × Draft)). draft_words (step_told t)) same, b ∙ ap (λ (t : Result Draft (Refusal × Draft)). buf_after t old at vs) same)
 
-  pub unopened_as : (f : Refusal) (d' : Draft) (words old new : List ℕ) (at : ℕ) (vs : List ℕ) → s ≡ Denied f d' → words ≡ draft_words (step_told (Denied f d))
+  pub unopened_as : (f : Refusal) (d' : Draft) (words old new : List ℕ) (at : ℕ) (vs : List ℕ) → s ≡ denied f d' → words ≡ draft_words (step_told (denied f d))
       → new ≡ buf_after s old at vs → (words ≡ draft_words (step_told (open_step d kind rule len))) × (new ≡ buf_after (open_step d kind rule len) old at vs)
   unopened_as f d' words old new at vs denies w b =
       let back = open_back d kind rule len f d' (sym from_blank ∙ denies) in
-      (w ∙ ap (λ (t : Step). draft_words (step_told t)) (sym back), b ∙ sym (buf_kept s f d' old at vs denies) ∙ buf_kept (open_step d kind rule len) f d old at vs back)
+      (w ∙ ap (λ (t : Result Draft (Refusal × Draft)). draft_words (step_told t)) (sym back), b ∙ sym (buf_kept s (f, d') old at vs denies) ∙ buf_kept (open_step d kind rule len) (f, d) old at vs back)
 
 -- adding with an upper half that does not fit, from what adding no bytes says
-pub upper_as : (e d : Draft) (s : Step) (len time upper n : ℕ) (words old new : List ℕ) (at at' : ℕ) (vs vs' : List ℕ) → 65535 < upper → e ≡ d → s ≡ add_step e len time 0
+pub upper_as : (e d : Draft) (s : Result Draft (Refusal × Draft)) (len time upper n : ℕ) (words old new : List ℕ) (at at' : ℕ) (vs vs' : List ℕ) → 65535 < upper → e ≡ d → s ≡ add_step e len time 0
     → words ≡ draft_words (step_told s) → new ≡ buf_after s old at vs
     → (words ≡ draft_words (step_told (add_given d len time upper n))) × (new ≡ buf_after (add_given d len time upper n) old at' vs')
 upper_as e d s len time upper n words old new at at' vs vs' far q is w b =
     let same : s ≡ add_given d len time upper n = is ∙ ap (λ (x : Draft). add_step x len time 0) q ∙ upper_over d len time upper n far in
-    let kept : new ≡ old = b ∙ ap (λ (t : Step). buf_after t old at vs) same ∙ upper_kept d len time upper n old at vs far in
-    (w ∙ ap (λ (t : Step). draft_words (step_told t)) same, kept ∙ sym (upper_kept d len time upper n old at' vs' far))
+    let kept : new ≡ old = b ∙ ap (λ (t : Result Draft (Refusal × Draft)). buf_after t old at vs) same ∙ upper_kept d len time upper n old at vs far in
+    (w ∙ ap (λ (t : Result Draft (Refusal × Draft)). draft_words (step_told t)) same, kept ∙ sym (upper_kept d len time upper n old at' vs' far))
 
 -- adding the first k bytes, which are none where the upper half does not fit
-module _ (e d : Draft) (s : Step) (len time upper k : ℕ) (bytes words old new : List ℕ) (q : e ≡ d) (is : s ≡ add_step e len time (length (part bytes 0 (k - 0))))
+module _ (e d : Draft) (s : Result Draft (Refusal × Draft)) (len time upper k : ℕ) (bytes words old new : List ℕ) (q : e ≡ d) (is : s ≡ add_step e len time (length (part bytes 0 (k - 0))))
     (w : words ≡ draft_words (step_told s)) (b : new ≡ buf_after s old e.used (block_bytes (form_of e) (entry_of time (upper % 0x10000) (part bytes 0 (k - 0))))) where
   abbrev As : Type 0
   As =

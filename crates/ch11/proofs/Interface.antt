@@ -1,4 +1,5 @@
 -- The interface says of words wider than what they stand for what its header says.
+use Rattle.std.specs.Prelude.{Result, Ok, Err}
 use mathlib.Core.Path.{◌≡◌, refl, ap, ◌∙◌}
 use mathlib.Core.List.{List, ◌∷◌}
 use mathlib.Core.Bool.{Bool, true, false}
@@ -10,16 +11,15 @@ use lib.Dec.{ltb}
 use borrow.Author.Tests.{lt-ltb, le-ltb}
 use Rattle.units.specs.Choice.{pick}
 use Rattle.terms.specs.Refusals.{refused, needing, fault}
-use Rattle.builder.specs.Build.{bad_draft, bad_block, bad_time, stray_time, grown, draft_added, add_step, step_told}
+use Rattle.builder.specs.Build.{denied, bad_draft, bad_block, bad_time, stray_time, grown, draft_added, add_step, step_told}
 use Rattle.builder.specs.declared.Draft.{Draft}
-use Rattle.builder.specs.declared.Step.{Step}
-use Rattle.builder.specs.declared.Step.TheVariants.{Done, Denied}
 use Rattle.frame.specs.declared.Fields.{Fields}
 use Rattle.ch11_words.specs.Words.{packet_words, list_words, message_words, recording_words, written_words, draft_words, added_words, renewed_words}
 use Rattle.ch11.specs.Given.{fields_fit, write_given, add_given}
 use Rattle.ch11.specs.Calls.{Holds}
 use Rattle.ch11.specs.Interface.{Held, Answers, Interface}
 use Rattle.ch11.proofs.Giving.{fits}
+use Rattle.terms.specs.declared.Refusal.{Refusal}
 
 -- ---- the writer
 
@@ -55,11 +55,11 @@ bad_says d len time n e =
   where
     go : (a : Bool) → bad_draft d len ≡ a → (b c s t : Bool)
         → (step_told
-        (pick a (Denied (refused 1 0) d)
-        (pick b (Denied (refused 17 0) d)
-        (pick c (Denied (fault 0 3) d)
-        (pick s (Denied (refused 17 0) d)
-        (pick t (Denied (needing (grown d n) (refused 16 0)) d) (Done (draft_added d n)))))))).refusal.number
+        (pick a (denied (refused 1 0) d)
+        (pick b (denied (refused 17 0) d)
+        (pick c (denied (fault 0 3) d)
+        (pick s (denied (refused 17 0) d)
+        (pick t (denied (needing (grown d n) (refused 16 0)) d) (Ok (draft_added d n)))))))).refusal.number
         ≡ 1
         → bad_draft d len ≡ true
     go true q b c s t e = q
@@ -69,7 +69,7 @@ bad_says d len time n e =
     go false q false false false true e = absurd (omega (arith, e))
     go false q false false false false e = absurd (omega (arith, e))
 
-bad_made : (d : Draft) (len time n : ℕ) → bad_draft d len ≡ true → add_step d len time n ≡ Denied (refused 1 0) d
+bad_made : (d : Draft) (len time n : ℕ) → bad_draft d len ≡ true → add_step d len time n ≡ denied (refused 1 0) d
 unfolding add_step
 bad_made d len time n e = rw e
 
@@ -84,9 +84,9 @@ module _ (d : Draft) (len time upper n : ℕ) where
   given_17 wide other = go (bad_draft d len) refl
     where
       go : (a : Bool) → bad_draft d len ≡ a
-          → step_told (pick a (Denied (refused 1 0) d) (pick (ltb 65535 upper) (Denied (refused 17 0) d) (add_step d len time n)))
+          → step_told (pick a (denied (refused 1 0) d) (pick (ltb 65535 upper) (denied (refused 17 0) d) (add_step d len time n)))
           ≡ record { refusal = record { number = 17; place = 0; room = 0; reason = 0; recording_place = 0 }; draft = d }
-      go true q = absurd (other (ap (λ (s : Step). (step_told s).refusal.number) (bad_made d len time n q)))
+      go true q = absurd (other (ap (λ (s : Result Draft (Refusal × Draft)). (step_told s).refusal.number) (bad_made d len time n q)))
       go false q = rw (lt-ltb 65535 upper wide)
 
   given_as : upper ≤ 65535 → add_given d len time upper n ≡ add_step d len time n
@@ -94,7 +94,7 @@ module _ (d : Draft) (len time upper n : ℕ) where
   given_as narrow = go (bad_draft d len) refl
     where
       go : (a : Bool) → bad_draft d len ≡ a
-          → pick a (Denied (refused 1 0) d) (pick (ltb 65535 upper) (Denied (refused 17 0) d) (add_step d len time n)) ≡ add_step d len time n
+          → pick a (denied (refused 1 0) d) (pick (ltb 65535 upper) (denied (refused 17 0) d) (add_step d len time n)) ≡ add_step d len time n
       go true q = rw (bad_made d len time n q)
       go false q = rw (le-ltb 65535 upper narrow)
 

@@ -1,17 +1,14 @@
 -- What the writer and the builder are given as 64-bit words, and what they say where a word is wider than what it stands for.
-use Rattle.std.specs.Prelude.{List, Bool, not, ◌&&◌, ℕ, ◌+◌, ◌^◌, get_or, ltb}
+use Rattle.std.specs.Prelude.{List, Bool, not, ◌&&◌, ℕ, ◌+◌, ◌^◌, get_or, ltb, Result, Err}
 use Rattle.units.specs.Choice.{pick}
 use Rattle.terms.specs.Refusals.{refused}
-use Rattle.builder.specs.Build.{bad_draft, add_step}
+use Rattle.builder.specs.Build.{denied, bad_draft, add_step}
 use Rattle.builder.specs.declared.Draft.{Draft}
-use Rattle.builder.specs.declared.Step.{Step}
-use Rattle.builder.specs.declared.Step.TheVariants.{Denied}
 use Rattle.frame.specs.Contents.{Contents}
 use Rattle.frame.specs.declared.Fields.{Fields}
 use Rattle.packet.specs.Write.{write_packet}
 use Rattle.ch11_words.specs.Words.{refusal_size}
-use Rattle.packet.specs.declared.PacketWrite.{PacketWrite}
-use Rattle.packet.specs.declared.PacketWrite.TheVariants.{Unwritten}
+use Rattle.terms.specs.declared.Refusal.{Refusal}
 
 -- ---- the writer
 
@@ -33,8 +30,8 @@ abbrev pub fields_fit : Fields → Bool
 fields_fit f = ltb f.channel (2 ^ 16) && ltb f.version 256 && ltb f.sequence 256 && ltb f.flags 256 && ltb f.kind 256
 
 -- a field that can't hold its value is input out of range, which the writer refuses first
-unfoldable pub write_given : Contents → ℕ → PacketWrite
-write_given c room = pick (not (fields_fit c.fields)) (Unwritten (refused 17 0)) (write_packet c room)
+unfoldable pub write_given : Contents → ℕ → Result ℕ Refusal
+write_given c room = pick (not (fields_fit c.fields)) (Err (refused 17 0)) (write_packet c room)
 
 -- ---- the builder
 
@@ -49,8 +46,8 @@ draft_of ws =
     }
 
 -- adding: an upper half that its 16 bits can't hold is input out of range, as a wrong n is
-unfoldable pub add_given : Draft → ℕ → ℕ → ℕ → ℕ → Step
+unfoldable pub add_given : Draft → ℕ → ℕ → ℕ → ℕ → Result Draft (Refusal × Draft)
 add_given d len time upper n =
-    pick (bad_draft d len) (Denied (refused 1 0) d)
-    (pick (ltb 65535 upper) (Denied (refused 17 0) d)
+    pick (bad_draft d len) (denied (refused 1 0) d)
+    (pick (ltb 65535 upper) (denied (refused 17 0) d)
     (add_step d len time n))

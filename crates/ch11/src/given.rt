@@ -1,59 +1,54 @@
 // The writer and the builder's steps on what they are given as words.
-ghost use Rattle.std.specs.Prelude.{◌≡◌, true, false, ◌||◌, ◌≤◌, length, ltb};
+ghost use Rattle.std.specs.Prelude.{Err, Some, None, ◌≡◌, not, ◌||◌, ◌≤◌, length, ltb};
 ghost use Rattle.units.specs.Choice.{pick};
 ghost use Rattle.units.specs.Units.{bytes_of};
 ghost use Rattle.body.specs.Blocks.{block_bytes};
 ghost use Rattle.builder.specs.Build.{form_of, open_step, open_word, entry_of, close_step, counter_bytes, buf_after, step_told};
-ghost use Rattle.builder.specs.declared.Step.TheVariants.{Denied};
 ghost use Rattle.frame.specs.Contents.{contents};
 ghost use Rattle.packet_bytes.specs.Bytes.{packet_bytes};
 ghost use Rattle.packet.specs.Write.{out_after};
 ghost use Rattle.ch11_words.specs.Words.{draft_words};
 ghost use Rattle.ch11.specs.Given.{fields_of, fields_fit, write_given, draft_of, add_given};
 
-use builder::{Draft, Step};
+use builder::Draft;
 use ch11_words::{DRAFT, FIELDS, REFUSAL, put_refusal, step_words};
 use frame::Fields;
-use packet::{PacketWrite, write_packet};
-use terms::{Refusal, refuse};
+use packet::write_packet;
+use terms::{Number, Refusal, refuse};
 
-// Whether each field can hold its word.
-fn fields_fit(ws: &[u64; FIELDS]) -> bool
-    ensures { result ≡ fields_fit (fields_of ws.now) }
+// The fields in these words, where each can hold its word. No `TryFrom`: the type is another crate's, the words are an array; and one test
+// for all, since with a `try_from` for each every field would leave by a way of its own.
+fn fields_of(ws: &[u64; FIELDS]) -> Option<Fields>
+    ensures { result ≡ pick (not (fields_fit (fields_of ws.now))) None (Some (fields_of ws.now)) }
 {
-    (ws[0] < 65536) & (ws[1] < 256) & (ws[2] < 256) & (ws[3] < 256) & (ws[4] < 256)
-}
-
-// The fields in these words.
-fn fields_of(ws: &[u64; FIELDS]) -> Fields
-    requires { fields_fit (fields_of ws.now) ≡ true }
-    ensures { result ≡ fields_of ws.now }
-{
-    Fields {
-        channel: ws[0] as u16,
-        version: ws[1] as u8,
-        sequence: ws[2] as u8,
-        flags: ws[3] as u8,
-        kind: ws[4] as u8,
-        rtc: ws[5],
-        time: ws[6],
+    if (ws[0] < 65536) & (ws[1] < 256) & (ws[2] < 256) & (ws[3] < 256) & (ws[4] < 256) {
+        return Some(Fields {
+            channel: ws[0] as u16,
+            version: ws[1] as u8,
+            sequence: ws[2] as u8,
+            flags: ws[3] as u8,
+            kind: ws[4] as u8,
+            rtc: ws[5],
+            time: ws[6],
+        });
     }
+    None
 }
 
 // Writes a packet; first 17 where a field can't hold its word.
-pub fn write_given(ws: &[u64; FIELDS], body: &[u8], out: &mut [u8]) -> PacketWrite
+pub fn write_given(ws: &[u64; FIELDS], body: &[u8], out: &mut [u8]) -> Result<usize, Refusal>
     ensures value { result ≡ write_given (contents (fields_of ws.now) body.now) (length out.old) }
     ensures out_after { out.new ≡ out_after result out.old (packet_bytes (contents (fields_of ws.now) body.now)) }
 {
-    if !fields_fit(ws) {
-        return PacketWrite::Unwritten(refuse(17, 0));
+    match fields_of(ws) {
+        Some(fields) => write_packet(fields, body, out),
+        None => Err(refuse(Number::Range, 0)),
     }
-    write_packet(fields_of(ws), body, out)
 }
 
 // The words of a refused step: this refusal, and the state as it was given.
 fn denied_words(f: Refusal, ws: [u64; DRAFT]) -> [u64; DRAFT]
-    ensures { result ≡ draft_words (step_told (Denied f (draft_of ws))) }
+    ensures { result ≡ draft_words (step_told (Err (f, draft_of ws))) }
 {
     let mut words = ws;
     put_refusal(&mut words, f);
@@ -67,17 +62,19 @@ fn over_byte(kind: u64, rule: u64) -> bool
     (255 < kind) | (255 < rule)
 }
 
-// The state in these words.
-fn draft_of(ws: [u64; DRAFT]) -> Draft
-    requires { (ltb 255 (draft_of ws).kind || ltb 255 (draft_of ws).rule) ≡ false }
-    ensures { result ≡ draft_of ws }
+// The state in these words, where its type and time rule fit.
+fn draft_of(ws: [u64; DRAFT]) -> Option<Draft>
+    ensures { result ≡ pick (ltb 255 (draft_of ws).kind || ltb 255 (draft_of ws).rule) None (Some (draft_of ws)) }
 {
-    Draft {
+    if over_byte(ws[REFUSAL + 2], ws[REFUSAL + 3]) {
+        return None;
+    }
+    Some(Draft {
         used: ws[REFUSAL] as usize,
         blocks: ws[REFUSAL + 1],
         kind: ws[REFUSAL + 2] as u8,
         rule: ws[REFUSAL + 3] as u8,
-    }
+    })
 }
 
 // Opens a body. The state in these words has no say, and is handed back on a refusal.
@@ -86,12 +83,12 @@ pub fn open_given(ws: [u64; DRAFT], buf: &mut [u8], kind: u64, rule: u64) -> [u6
     ensures buf_after { buf.new ≡ buf_after (open_step (draft_of ws) kind rule (length buf.old)) buf.old 0 (bytes_of 4 (open_word kind rule)) }
 {
     if over_byte(kind, rule) {
-        return denied_words(refuse(17, 0), ws);
+        return denied_words(refuse(Number::Range, 0), ws);
     }
     let step = Draft::fresh().open(buf, kind as u8, rule as u8);
     match step {
-        Step::Done(_) => step_words(step),
-        Step::Denied(f, _) => denied_words(f, ws),
+        Ok(_) => step_words(step),
+        Err((f, _)) => denied_words(f, ws),
     }
 }
 
@@ -114,12 +111,13 @@ pub fn add_given(
     ensures value { result ≡ draft_words (step_told (add_given (draft_of ws) (length buf.old) time upper (length bytes.now))) }
     ensures buf_after { buf.new ≡ buf_after (add_given (draft_of ws) (length buf.old) time upper (length bytes.now)) buf.old (draft_of ws).used (block_bytes (form_of (draft_of ws)) (entry_of time upper bytes.now)) }
 {
-    if over_byte(ws[REFUSAL + 2], ws[REFUSAL + 3]) {
-        return denied_words(refuse(1, 0), ws);
+    match draft_of(ws) {
+        Some(draft) => {
+            let n = bytes_beside(upper, bytes.len());
+            step_words(draft.add(buf, time, (upper % 0x1_0000) as u16, &bytes[0..n]))
+        }
+        None => denied_words(refuse(Number::State, 0), ws),
     }
-    let draft = draft_of(ws);
-    let n = bytes_beside(upper, bytes.len());
-    step_words(draft.add(buf, time, (upper % 0x1_0000) as u16, &bytes[0..n]))
 }
 
 // Closes a body.
@@ -127,8 +125,8 @@ pub fn close_given(ws: [u64; DRAFT], buf: &mut [u8]) -> [u64; DRAFT]
     ensures value { result ≡ draft_words (step_told (close_step (draft_of ws) (length buf.old))) }
     ensures buf_after { buf.new ≡ buf_after (close_step (draft_of ws) (length buf.old)) buf.old 0 (counter_bytes (draft_of ws)) }
 {
-    if over_byte(ws[REFUSAL + 2], ws[REFUSAL + 3]) {
-        return denied_words(refuse(1, 0), ws);
+    match draft_of(ws) {
+        Some(draft) => step_words(draft.close(buf)),
+        None => denied_words(refuse(Number::State, 0), ws),
     }
-    step_words(draft_of(ws).close(buf))
 }

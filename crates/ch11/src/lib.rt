@@ -5,16 +5,15 @@
 
 ghost use Rattle.ch11.specs.Calls.{ReadPacket, ListMessages, GiveMessage, ReadRecording, WritePacket, Open, Add, Close, RenewalAdd, RenewalRenew, RenewalNext};
 
-use packet::{PacketRead, list_messages, message, read_packet};
+use packet::{list_messages, message, read_packet};
 use recording::read_recording;
-use renewal::{EntryRenewal, Table, add, next_live, renew};
+use renewal::{Renewed, Table, add, next_live, renew};
 
 mod given;
 
 use ch11_words::{
-    ADDED, DRAFT, FIELDS, LIST, MESSAGE, PACKET, RECORDING, RENEWED, WRITTEN, added_words,
-    dropped_words, list_words, lives_words, message_words, packet_words, recording_words,
-    refused_words, unrenewed_words, written_words,
+    COUNT, DRAFT, FIELDS, MESSAGE, PACKET, RECORDING, RENEWED, count_words, dropped_words,
+    lives_words, message_words, packet_words, recording_words, refused_words, unrenewed_words,
 };
 use given::{add_given, close_given, open_given, write_given};
 
@@ -30,11 +29,11 @@ pub extern "C" fn ch11_read_packet(
     ensures { ReadPacket buf.now start end base result packet.new }
 {
     match read_packet(buf, start, end, base) {
-        PacketRead::Accepted(p) => {
+        Ok(p) => {
             *packet = packet_words(p);
             0
         }
-        PacketRead::Refused(f) => {
+        Err(f) => {
             *packet = refused_words(f);
             f.number as u64
         }
@@ -50,11 +49,11 @@ pub extern "C" fn ch11_list_messages(
     base: u64,
     starts: &mut [u32],
     lengths: &mut [u32],
-    list: &mut [u64; LIST],
+    list: &mut [u64; COUNT],
 ) -> u64
     ensures { ListMessages buf.now start end base starts.old lengths.old result list.new starts.new lengths.new }
 {
-    *list = list_words(list_messages(buf, start, end, base, starts, lengths));
+    *list = count_words(list_messages(buf, start, end, base, starts, lengths));
     list[0]
 }
 
@@ -95,11 +94,11 @@ pub extern "C" fn ch11_write_packet(
     fields: &[u64; FIELDS],
     body: &[u8],
     out: &mut [u8],
-    written: &mut [u64; WRITTEN],
+    written: &mut [u64; COUNT],
 ) -> u64
     ensures { WritePacket fields.now body.now out.old result written.new out.new }
 {
-    *written = written_words(write_given(fields, body, out));
+    *written = count_words(write_given(fields, body, out));
     written[0]
 }
 
@@ -146,11 +145,11 @@ pub extern "C" fn ch11_renewal_add(
     buf: &[u8],
     start: usize,
     end: usize,
-    added: &mut [u64; ADDED],
+    added: &mut [u64; COUNT],
 ) -> u64
     ensures { RenewalAdd table.old store.old recording place buf.now start end result added.new table.new store.new }
 {
-    *added = added_words(add(table, store, recording, place, buf, start, end));
+    *added = count_words(add(table, store, recording, place, buf, start, end));
     added[0]
 }
 
@@ -169,15 +168,15 @@ pub extern "C" fn ch11_renewal_renew(
     ensures { RenewalRenew table.old store.now recording place buf.now start end result renewed.new table.new }
 {
     match renew(table, store, recording, place, buf, start, end) {
-        EntryRenewal::Lives => {
+        Ok(Renewed::Lives) => {
             *renewed = lives_words();
             0
         }
-        EntryRenewal::Dropped(f) => {
+        Ok(Renewed::Dropped(f)) => {
             *renewed = dropped_words(f);
             0
         }
-        EntryRenewal::Unrenewed(f) => {
+        Err(f) => {
             *renewed = unrenewed_words(f);
             f.number as u64
         }

@@ -1,21 +1,21 @@
-// The structs of include/ch11.h: an answer as the words of its struct, the refusal's first, then its own.
+// The structs of include/ch11.h: an answer as the words of its struct, the refusal's first, then its own. Functions, no `From`: the types
+// are other crates', and the words arrays. Their matches differ in the words that they set, and no two take the same value.
 #![tactic(auto)]
 
-ghost use Rattle.std.specs.Prelude.{◌≡◌, ◌+◌, ◌≤◌, length};
+ghost use Rattle.std.specs.Prelude.{Ok, Err, ◌≡◌, ◌+◌, ◌-◌, ◌≤◌, ◌++◌, length, replicate};
 ghost use Rattle.units.specs.Units.{splice};
 ghost use Rattle.builder.specs.Build.{step_told};
 ghost use Rattle.packet.specs.Read.{packet_told};
-ghost use Rattle.packet.specs.declared.PacketRead.TheVariants.{Accepted, Refused};
 ghost use Rattle.packet.specs.Messages.{list_told, message_told};
 ghost use Rattle.packet.specs.Write.{write_told};
 ghost use Rattle.ch11_words.specs.Words.{refusal_size, refusal_words, packet_words, list_words, message_words, recording_words, written_words, state_words, draft_words, added_words, renewed_words};
 ghost use Rattle.renewal.specs.Renewal.{add_told, renew_told};
-ghost use Rattle.renewal.specs.declared.EntryRenewal.TheVariants.{Lives, Dropped, Unrenewed};
+ghost use Rattle.renewal.specs.declared.Renewed.TheVariants.{Lives, Dropped};
 
-use builder::{Draft, Step};
-use packet::{Packet, PacketList, PacketMessage, PacketWrite};
+use body::Message;
+use builder::Draft;
+use packet::Packet;
 use recording::Recording;
-use renewal::EntryAdd;
 use terms::Refusal;
 
 // The words of each struct of include/ch11.h.
@@ -25,17 +25,13 @@ pub const FIELDS: usize = 7;
 
 pub const PACKET: usize = REFUSAL + FIELDS + 15;
 
-pub const LIST: usize = REFUSAL + 1;
+pub const COUNT: usize = REFUSAL + 1;
 
 pub const MESSAGE: usize = REFUSAL + 4;
 
 pub const RECORDING: usize = REFUSAL + 3;
 
-pub const WRITTEN: usize = REFUSAL + 1;
-
 pub const DRAFT: usize = REFUSAL + 4;
-
-pub const ADDED: usize = REFUSAL + 1;
 
 pub const RENEWED: usize = REFUSAL + 1 + REFUSAL;
 
@@ -51,9 +47,19 @@ pub fn put_refusal(words: &mut [u64], f: Refusal)
     words[4] = f.recording_place;
 }
 
+// A struct of N words of a refusal: all others are 0.
+fn refusal_alone<const N: usize>(f: Refusal) -> [u64; N]
+    requires { refusal_size ≤ N }
+    ensures { result ≡ refusal_words f ++ replicate (N - refusal_size) 0 }
+{
+    let mut words = [0; N];
+    put_refusal(&mut words, f);
+    words
+}
+
 // struct ch11_packet of an accepted packet.
 pub fn packet_words(p: Packet) -> [u64; PACKET]
-    ensures { result ≡ packet_words (packet_told (Accepted p)) }
+    ensures { result ≡ packet_words (packet_told (Ok p)) }
 {
     [
         0,
@@ -88,24 +94,24 @@ pub fn packet_words(p: Packet) -> [u64; PACKET]
 
 // struct ch11_packet of a refusal. Apart from the accepted packet's: a struct made of both would be copied.
 pub fn refused_words(f: Refusal) -> [u64; PACKET]
-    ensures { result ≡ packet_words (packet_told (Refused f)) }
+    ensures { result ≡ packet_words (packet_told (Err f)) }
 {
-    let mut words = [0; PACKET];
-    put_refusal(&mut words, f);
-    words
+    refusal_alone(f)
 }
 
-// struct ch11_list.
-pub fn list_words(answer: PacketList) -> [u64; LIST]
-    ensures { result ≡ list_words (list_told answer) }
+// struct ch11_list, ch11_written and ch11_added: a number behind the refusal.
+pub fn count_words(answer: Result<usize, Refusal>) -> [u64; COUNT]
+    ensures list { result ≡ list_words (list_told answer) }
+    ensures written { result ≡ written_words (write_told answer) }
+    ensures added { result ≡ added_words (add_told answer) }
 {
-    let mut words = [0; LIST];
+    let mut words = [0; COUNT];
     match answer {
-        PacketList::Listed(count) => {
+        Ok(count) => {
             words[REFUSAL] = count as u64;
             words
         }
-        PacketList::Unlisted(f) => {
+        Err(f) => {
             put_refusal(&mut words, f);
             words
         }
@@ -113,19 +119,19 @@ pub fn list_words(answer: PacketList) -> [u64; LIST]
 }
 
 // struct ch11_message.
-pub fn message_words(answer: PacketMessage) -> [u64; MESSAGE]
+pub fn message_words(answer: Result<Message, Refusal>) -> [u64; MESSAGE]
     ensures { result ≡ message_words (message_told answer) }
 {
     let mut words = [0; MESSAGE];
     match answer {
-        PacketMessage::Given(m) => {
+        Ok(m) => {
             words[REFUSAL] = m.time;
             words[REFUSAL + 1] = m.id as u64;
             words[REFUSAL + 2] = m.start as u64;
             words[REFUSAL + 3] = m.length as u64;
             words
         }
-        PacketMessage::Withheld(f) => {
+        Err(f) => {
             put_refusal(&mut words, f);
             words
         }
@@ -145,34 +151,17 @@ pub fn recording_words(answer: Recording) -> [u64; RECORDING]
     words
 }
 
-// struct ch11_written.
-pub fn written_words(answer: PacketWrite) -> [u64; WRITTEN]
-    ensures { result ≡ written_words (write_told answer) }
-{
-    let mut words = [0; WRITTEN];
-    match answer {
-        PacketWrite::Written(length) => {
-            words[REFUSAL] = length as u64;
-            words
-        }
-        PacketWrite::Unwritten(f) => {
-            put_refusal(&mut words, f);
-            words
-        }
-    }
-}
-
 // struct ch11_draft.
-pub fn step_words(step: Step) -> [u64; DRAFT]
+pub fn step_words(step: Result<Draft, (Refusal, Draft)>) -> [u64; DRAFT]
     ensures { result ≡ draft_words (step_told step) }
 {
     let mut words = [0; DRAFT];
     match step {
-        Step::Done(d) => {
+        Ok(d) => {
             put_state(&mut words, d);
             words
         }
-        Step::Denied(f, d) => {
+        Err((f, d)) => {
             put_refusal(&mut words, f);
             put_state(&mut words, d);
             words
@@ -191,26 +180,9 @@ fn put_state(words: &mut [u64], d: Draft)
     words[REFUSAL + 3] = d.rule as u64;
 }
 
-// struct ch11_added.
-pub fn added_words(answer: EntryAdd) -> [u64; ADDED]
-    ensures { result ≡ added_words (add_told answer) }
-{
-    let mut words = [0; ADDED];
-    match answer {
-        EntryAdd::Added(slot) => {
-            words[REFUSAL] = slot as u64;
-            words
-        }
-        EntryAdd::Unadded(f) => {
-            put_refusal(&mut words, f);
-            words
-        }
-    }
-}
-
 // struct ch11_renewed of an entry that lives on. Apart from the others: a struct made of all three would be copied.
 pub fn lives_words() -> [u64; RENEWED]
-    ensures { result ≡ renewed_words (renew_told Lives) }
+    ensures { result ≡ renewed_words (renew_told (Ok Lives)) }
 {
     let mut words = [0; RENEWED];
     words[REFUSAL] = 1;
@@ -219,7 +191,7 @@ pub fn lives_words() -> [u64; RENEWED]
 
 // struct ch11_renewed of an entry that is dropped: the reader's refusal, or none, stands last.
 pub fn dropped_words(f: Refusal) -> [u64; RENEWED]
-    ensures { result ≡ renewed_words (renew_told (Dropped f)) }
+    ensures { result ≡ renewed_words (renew_told (Ok (Dropped f))) }
 {
     let mut words = [0; RENEWED];
     put_refusal(&mut words[REFUSAL + 1..RENEWED], f);
@@ -228,9 +200,7 @@ pub fn dropped_words(f: Refusal) -> [u64; RENEWED]
 
 // struct ch11_renewed of a refusal.
 pub fn unrenewed_words(f: Refusal) -> [u64; RENEWED]
-    ensures { result ≡ renewed_words (renew_told (Unrenewed f)) }
+    ensures { result ≡ renewed_words (renew_told (Err f)) }
 {
-    let mut words = [0; RENEWED];
-    put_refusal(&mut words, f);
-    words
+    refusal_alone(f)
 }

@@ -8,6 +8,9 @@ use lib.ListN.{length, take, drop, length-append, get_or-append, take-append-dro
 use lib.Seq.{length-take-le}
 use lib.Dec.{T, eqb, leb}
 use borrow.Author.Tests.{eqb-true, eq-eqb, leb-true, leb-false, le-leb, lt-leb}
+use Rattle.std.specs.Prelude.{Result, Ok}
+use Rattle.terms.specs.declared.Number.{Number}
+use Rattle.terms.specs.Numbers.{told}
 use Rattle.units.specs.Units.{summed}
 use Rattle.units.specs.Choice.{pick}
 use Rattle.units.proofs.Choices.{and_true, same_test}
@@ -244,6 +247,10 @@ sound w head values there =
 
 pub frame_sound : (w : List ℕ) → first (frame_lines w) ≡ 0 → Sound w
 frame_sound w e = let p = parted w e in sound w p.head p.values p.there
+
+-- a test of these bytes that named no refusal
+pub passed_sound : {A : Type 0} (w bs : List ℕ) (a : A) (r : Result A Number) → bs ≡ w → r ≡ Ok a → told r ≡ first (frame_lines bs) → Sound w
+passed_sound w bs a r same is e = frame_sound w (rw (← same) (sym e ∙ ap told is))
 
 -- ---- what stands behind a packet
 

@@ -12,7 +12,7 @@ use Rattle.units.specs.Units.{part, num, field, sum_units, summed, zeros}
 use Rattle.frame.specs.Sums.{sum_width, secondary_sum, data_sum}
 use Rattle.units.proofs.Parts.{field_part}
 use Rattle.terms.proofs.Times.{zero_ok}
-use Rattle.frame.specs.Header.{packet_length, flags_in, secondary_bit, time_in, sum_at, body_and_filler_in}
+use Rattle.frame.specs.Header.{packet_length, flags_in, secondary_bit, secondary_in, time_in, sum_at, sum_code, data_sum_in, body_and_filler_in}
 use Rattle.frame.specs.Rules.{secondary_time_ok, secondary_summed, secondary_ok, data_summed, filler_ok}
 use Rattle.frame.specs.Table.{Line, first, whole_lines, secondary_lines}
 use Rattle.frame.specs.inner.Lengths.{Measured}
@@ -44,6 +44,10 @@ pub no_time : (w : List ℕ) → secondary_bit (flags_in w) ≡ 0 → 0 ≡ time
 unfolding num
 no_time w e = rw e
 
+pub none_in : (w : List ℕ) → secondary_in w ≡ [] → 0 ≡ time_in w
+unfolding num
+none_in w e = rw e
+
 pub the_time : (w : List ℕ) (t : ℕ) → secondary_bit (flags_in w) ≡ 1 → t ≡ field w 24 8 → t ≡ time_in w
 the_time w t e p = p ∙ rw e (sym (field_part w 24 12 0 8 (omega arith)))
 
@@ -57,6 +61,10 @@ pub secondary_ok_is : (w : List ℕ) (x t : ℕ) (b : Bool) → secondary_bit (f
 secondary_ok_is w x t b e p q r = rw (r, e, p, q)
 
 -- ---- 13 and 14
+
+pub no_stored : (w : List ℕ) → sum_code (flags_in w) ≡ 0 → 0 ≡ data_sum_in w
+unfolding num
+no_stored w e = rw e
 
 pub data_summed_is : (w : List ℕ) (l : Layout) (x y : ℕ) → Measured w l → x ≡ data_sum (flags_in w % 4) (part w l.body (l.sum - l.body))
     → y ≡ field w l.sum (sum_width (flags_in w % 4)) → eqb x y ≡ data_summed w

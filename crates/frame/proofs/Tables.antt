@@ -5,6 +5,10 @@ use mathlib.Core.Bool.{Bool, true, false, not, ◌&&◌}
 use Prim.Native.Nat.{ℕ}
 use lib.Dec.{T, ltb}
 use borrow.Author.Tests.{not-true, not-false}
+use native.Mathlib.Omega.{arith}
+use Rattle.terms.specs.declared.Number.{Number}
+use Rattle.terms.specs.Numbers.{number_of}
+use Rattle.terms.proofs.Numbers.{above_none}
 use Rattle.frame.specs.Table.{Line, line, first}
 
 -- ---- to an answer
@@ -53,6 +57,10 @@ unfolding first
 stage_some [] ys n e h = absurd (h e)
 stage_some (line k true ∷ xs) ys n e h = stage_some xs ys n e h
 stage_some (line k false ∷ xs) ys n e h = e
+
+-- where the first part names a refusal
+pub stage_told : (xs ys : List Line) (e : Number) → number_of e ≡ first xs → number_of e ≡ first (xs ++ ys)
+stage_told xs ys e h = stage_some xs ys (number_of e) h λ z. omega (arith, above_none e)
 
 pub stage_none : (xs ys : List Line) → T (numbered xs) → first xs ≡ 0 → first (xs ++ ys) ≡ first ys
 unfolding first

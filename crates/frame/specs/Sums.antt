@@ -1,6 +1,8 @@
 -- The three sums of a packet (document 01, "Primary header", "Secondary header" and "Trailer").
 use Rattle.std.specs.Prelude.{List, ℕ, zero, suc, ◌/◌, length}
 use Rattle.units.specs.Units.{checksum}
+use Rattle.frame.specs.declared.sums.Width.{Width}
+use Rattle.frame.specs.declared.sums.Width.TheVariants.{Bits8, Bits16, Bits32}
 
 -- the sum of the eleven 16-bit words ahead of it (11.2.1.1)
 abbrev pub header_sum : List ℕ → ℕ
@@ -9,6 +11,12 @@ header_sum bs = checksum 2 11 bs
 -- the sum of the five 16-bit words before it (secondary header)
 abbrev pub secondary_sum : List ℕ → ℕ
 secondary_sum bs = checksum 2 5 bs
+
+-- bits 1-0 of the flags, for each width of a data sum
+abbrev pub code_of : Width → ℕ
+code_of Bits8 = 1
+code_of Bits16 = 2
+code_of Bits32 = 3
 
 -- the data sum's width in bytes, by bits 1-0 of the flags: none, 8, 16 or 32 bits
 abbrev pub sum_width : ℕ → ℕ

@@ -1,11 +1,12 @@
 // The sync bytes, and the data sum as it is stored.
-ghost use Rattle.std.specs.Prelude.{◌≡◌, ◌+◌, ◌≤◌, ◌<◌, length};
-ghost use Rattle.units.specs.Units.{field, splice, bytes_of};
-ghost use Rattle.frame.specs.Sums.{sum_width};
+ghost use Rattle.std.specs.Prelude.{◌≡◌, ◌+◌, ◌≤◌, length};
+ghost use Rattle.units.specs.Units.{field, splice};
+ghost use Rattle.frame.specs.Sums.{code_of, sum_width};
 ghost use Rattle.frame.specs.Rules.{synced};
 ghost use Rattle.frame.specs.Header.{sync};
 
-use units::{copy_at, put16, put32, read16, read32};
+use crate::sums::Width;
+use units::{InBytes, copy_at};
 
 // The sync bytes in their order (11.2.1.1 a).
 const SYNC: [u8; 2] = [0x25, 0xEB];
@@ -24,37 +25,15 @@ pub fn put_sync(out: &mut [u8])
     copy_at(out, 0, &SYNC);
 }
 
-// The data sum in the bytes from `at` on, by bits 1-0 of the flags; 0 if there is none.
-pub fn read_sum(w: &[u8], at: usize, code: u8) -> u32
-    requires { (code < 4) × (at + sum_width code ≤ length w.now) }
-    ensures { result ≡ field w.now at (sum_width code) }
+// The data sum in the bytes from `at` on.
+#[tactic(auto, using(units::proofs::Parts::field_one), unfolding(units::specs::Units::num))]
+pub fn read_sum(w: &[u8], at: usize, width: Width) -> u32
+    requires { at + sum_width (code_of width) ≤ length w.now }
+    ensures { result ≡ field w.now at (sum_width (code_of width)) }
 {
-    if code == 1 {
-        return w[at] as u32;
-    }
-    if code == 2 {
-        return read16(w, at) as u32;
-    }
-    if code == 3 {
-        return read32(w, at);
-    }
-    0
-}
-
-// Writes a data sum into the bytes from `at` on.
-pub fn put_sum(out: &mut [u8], at: usize, code: u8, sum: u32)
-    requires { (code < 4) × (at + sum_width code ≤ length out.old) }
-    ensures { out.new ≡ splice out.old at (bytes_of (sum_width code) sum) }
-{
-    if code == 1 {
-        out[at] = (sum % 256) as u8;
-        return;
-    }
-    if code == 2 {
-        put16(out, at, (sum % 0x1_0000) as u16);
-        return;
-    }
-    if code == 3 {
-        put32(out, at, sum);
+    match width {
+        Width::Bits8 => w[at] as u32,
+        Width::Bits16 => u16::read(w, at) as u32,
+        Width::Bits32 => u32::read(w, at),
     }
 }

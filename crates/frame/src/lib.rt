@@ -2,13 +2,14 @@
 // A window's bytes are taken from the packet's first on; places are counted from it.
 #![tactic(auto)]
 
+pub mod framed;
 pub mod head;
 pub mod rules;
 pub mod sums;
 pub mod table;
 
 // What a packet holds but for its body, and what a writer is told: the primary header's numbers that are not worked out, and
-// the secondary header's time (0 if absent).
+// the secondary header's time (0 if absent). A type or version is any byte, also one that the rules refuse (`value_lines`).
 #[derive(Clone, Copy)]
 pub struct Fields {
     pub channel: u16,

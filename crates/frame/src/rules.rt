@@ -1,11 +1,13 @@
 // The rules of plain numbers, for reader and writer alike, and the lengths of a packet's parts.
 ghost use Rattle.std.specs.Prelude.{◌≡◌, ◌+◌, ◌%◌, ◌^◌, ◌≤◌, ◌<◌, leb};
+ghost use Rattle.terms.specs.Numbers.{told};
 ghost use Rattle.frame.specs.Header.{sum_length, body_at, unfilled_length, length_for};
 ghost use Rattle.frame.specs.Rules.{version_ok, type_ok, flags_ok, channel_ok, limit, lengths_ok, secondary_time_ok, message_rule};
 ghost use Rattle.frame.specs.Table.{first, value_lines};
 
-use terms::TimeRule;
-use terms::time::{rule_of, time_ok};
+use crate::sums::Width;
+use terms::time::time_ok;
+use terms::{Number, TimeRule};
 
 fn version_ok(version: u8) -> bool
     ensures { result ≡ version_ok version }
@@ -55,15 +57,13 @@ fn within_limit(kind: u8, p: u64) -> bool
     (kind == 0x01) & (p <= 134_217_728)
 }
 
-// The data sum's width in bytes.
+// The data sum's width in bytes. By numbers: of a `match` on `Width::of` the compiler makes a table in memory.
+#[tactic(auto, using(crate::proofs::Widths::width_is))]
 pub fn sum_length(flags: u8) -> u64
     ensures { (result ≡ sum_length flags) × (result ≤ 4) }
 {
     let code = flags % 4;
-    if code == 3 {
-        return 4;
-    }
-    code as u64
+    if code == 3 { 4 } else { code as u64 }
 }
 
 // Where the body stands: behind the primary header, and the secondary header if there is one.
@@ -96,34 +96,42 @@ fn lengths_ok(kind: u8, flags: u8, p: u64, d: u64) -> bool
     (p == length_for(flags, d)) & within_limit(kind, p) & (1 <= d)
 }
 
-// 5 to 9 of the table, or 0.
-pub fn value_refusal(channel: u16, version: u8, flags: u8, kind: u8, p: u64, d: u64) -> u8
+// The first of 5 to 9 of the table that applies.
+#[tactic(auto, unfolding(crate::specs::Table::value_lines, crate::specs::Table::first))]
+pub fn value_refusal(
+    channel: u16,
+    version: u8,
+    flags: u8,
+    kind: u8,
+    p: u64,
+    d: u64,
+) -> Result<(), Number>
     requires { d < 2 ^ 63 }
-    ensures { result ≡ first (value_lines channel version flags kind p d) }
+    ensures { told result ≡ first (value_lines channel version flags kind p d) }
 {
     if !version_ok(version) {
-        return 5;
+        return Err(Number::Version);
     }
     if !type_ok(kind) {
-        return 6;
+        return Err(Number::Type);
     }
     if !flags_ok(flags) {
-        return 7;
+        return Err(Number::Flags);
     }
     if !channel_ok(channel, kind) {
-        return 8;
+        return Err(Number::Channel);
     }
     if !lengths_ok(kind, flags, p, d) {
-        return 9;
+        return Err(Number::Length);
     }
-    0
+    Ok(())
 }
 
 // Whether a secondary time is in form, by the flags' format.
 pub fn secondary_time_ok(flags: u8, time: u64) -> bool
     ensures { result ≡ secondary_time_ok flags time }
 {
-    time_ok(rule_of(2 + flags / 4 % 4), time)
+    time_ok(TimeRule::from(2 + flags / 4 % 4), time)
 }
 
 // The rule of message times.
@@ -131,7 +139,7 @@ pub fn message_rule(flags: u8) -> TimeRule
     ensures { result ≡ message_rule flags }
 {
     if flags / 64 % 2 == 0 {
-        return rule_of(1);
+        return TimeRule::from(1);
     }
-    rule_of(2 + flags / 4 % 4)
+    TimeRule::from(2 + flags / 4 % 4)
 }

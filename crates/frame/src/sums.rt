@@ -1,46 +1,64 @@
 // The three sums of a packet.
-ghost use Rattle.std.specs.Prelude.{◌≡◌, ◌≤◌, ◌<◌, length};
-ghost use Rattle.frame.specs.Sums.{header_sum, secondary_sum, data_sum};
+ghost use Rattle.std.specs.Prelude.{◌≡◌, ◌+◌, ◌*◌, ◌-◌, ◌≤◌, length, MatchOption};
+ghost use Rattle.units.specs.Units.{bytes_of, checksum, part, splice};
+ghost use Rattle.frame.specs.Sums.{code_of, sum_width, data_sum};
+ghost use Rattle.frame.specs.Header.{sum_code};
 
-use units::{lanes8, lanes16, lanes32, sum16};
+use units::{InBytes, lanes, sum};
 
-// The sum of the eleven words of a primary header ahead of its own (11.2.1.1), added where they are lent: nothing is copied (02 §3).
-pub fn header_sum(header: &[u8]) -> u16
-    requires { 24 ≤ length header.now }
-    ensures { result ≡ header_sum header.now }
+// The words of a header ahead of its own sum.
+pub const HEADER_WORDS: usize = 11;
+
+pub const SECONDARY_WORDS: usize = 5;
+
+// The sum of the first N words of a header, added where they are lent: nothing is copied (02 §3).
+pub fn header_sum<const N: usize>(header: &[u8]) -> u16
+    requires { 2 * N ≤ length header.now }
+    ensures { result ≡ checksum 2 N header.now }
 {
-    sum16(header, 11)
+    sum(header, N)
 }
 
-// The sum of the five words of a secondary header before its own.
-pub fn secondary_sum(header: &[u8]) -> u16
-    requires { 12 ≤ length header.now }
-    ensures { result ≡ secondary_sum header.now }
-{
-    sum16(header, 5)
+// The data sum's width.
+#[derive(Clone, Copy)]
+pub enum Width {
+    Bits8,
+    Bits16,
+    Bits32,
 }
 
-// The data sum of body and filler by bits 1-0 of the flags: none (0), 8, 16 or 32 bits.
-// `[0..]` keeps the slice in registers (docs/DECISIONS.md, "Speed").
-pub fn data_sum(s: &[u8], code: u8) -> u32
-    requires { code < 4 }
-    ensures { result ≡ data_sum code s.now }
-{
-    sum_of(&s[0..], code)
-}
-
-fn sum_of(s: &[u8], code: u8) -> u32
-    requires { code < 4 }
-    ensures { result ≡ data_sum code s.now }
-{
-    if 2 <= code {
-        if code == 2 {
-            return lanes16(s, s.len() / 2) as u32;
+impl Width {
+    // By bits 1-0 of the flags, where there is a data sum.
+    pub fn of(flags: u8) -> Option<Width>
+        ensures { MatchOption result (sum_code flags ≡ 0) (λ width. code_of width ≡ sum_code flags) }
+    {
+        match flags % 4 {
+            1 => Some(Width::Bits8),
+            2 => Some(Width::Bits16),
+            3 => Some(Width::Bits32),
+            _ => None,
         }
-        return lanes32(s, s.len() / 4);
     }
-    if code == 0 {
-        return 0;
+}
+
+// Writes the data sum of the bytes from `at` on up to `end`, behind them.
+pub fn put_data_sum(out: &mut [u8], at: usize, end: usize, width: Width)
+    requires { (at ≤ end) × (end + sum_width (code_of width) ≤ length out.old) }
+    ensures { out.new ≡ splice out.old end (bytes_of (sum_width (code_of width)) (data_sum (code_of width) (part out.old at (end - at)))) }
+{
+    let filled = &out[at..end];
+    match width {
+        Width::Bits8 => {
+            let sum = lanes::<u8>(filled, filled.len());
+            out[end] = sum;
+        }
+        Width::Bits16 => {
+            let sum = lanes::<u16>(filled, filled.len() / 2);
+            u16::put(out, end, sum);
+        }
+        Width::Bits32 => {
+            let sum = lanes::<u32>(filled, filled.len() / 4);
+            u32::put(out, end, sum);
+        }
     }
-    lanes8(s, s.len()) as u32
 }

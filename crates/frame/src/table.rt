@@ -1,197 +1,141 @@
-// The table of refusals, 2 to 14, on a window's bytes; what an accepted frame holds, and where its parts stand.
-ghost use Rattle.std.specs.Prelude.{◌≡◌, ◌≤◌, length};
-ghost use Rattle.frame.specs.Header.{flags_in, secondary_bit, time_in, fields_in};
-ghost use Rattle.frame.specs.Rules.{header_summed, secondary_summed, secondary_ok, data_summed, filler_ok};
+// The table of refusals, 2 to 14, on a window's bytes.
+ghost use Rattle.std.specs.Prelude.{◌≡◌, ◌*◌, ◌+◌, ◌≤◌, length, IfOk};
+ghost use Rattle.terms.specs.Numbers.{told};
+ghost use Rattle.units.specs.Units.{summed};
+ghost use Rattle.units.specs.Choice.{pick};
+ghost use Rattle.frame.specs.Rules.{data_summed, filler_ok};
 ghost use Rattle.frame.specs.Table.{first, head_lines, values_in, secondary_lines, trailer_lines, frame_lines};
-ghost use Rattle.frame.specs.inner.Lengths.{Sound, Measured};
 
-use crate::head::{read_sum, synced};
-use crate::rules::{body_at, secondary_time_ok, sum_length, value_refusal};
-use crate::sums::{data_sum, header_sum, secondary_sum};
-use crate::{Fields, Layout};
-use units::{all_zero, read16, read32, read48, read64};
+use crate::Layout;
+use crate::framed::Framed;
+use crate::head::synced;
+use crate::rules::{secondary_time_ok, value_refusal};
+use crate::sums::{HEADER_WORDS, SECONDARY_WORDS, Width, header_sum};
+use terms::Number;
+use units::{InBytes, all_zero, lanes};
 
-// The first of 2 to 14 that applies, or 0. `[0..]` keeps the slice in registers (docs/DECISIONS.md, "Speed").
-pub fn frame_refusal(w: &[u8]) -> u8
-    ensures { result ≡ first (frame_lines w.now) }
+// The window that has passed 2 to 14, or the first that applies. Inlined, so that a slice and a number's two bytes are handed about in
+// registers: out of line, its answer stands in memory.
+#[inline(always)]
+pub fn frame(w: &[u8]) -> Result<Framed, Number>
+    ensures told { told result ≡ first (frame_lines w.now) }
+    ensures bytes { IfOk result (λ framed. framed.bytes.now ≡ w.now) }
 {
-    first_refusal(&w[0..])
+    frame_refusal(w)?;
+    Ok(Framed { bytes: w })
 }
 
-fn first_refusal(w: &[u8]) -> u8
-    ensures { result ≡ first (frame_lines w.now) }
+// The first of 2 to 14 that applies.
+fn frame_refusal(w: &[u8]) -> Result<(), Number>
+    ensures { told result ≡ first (frame_lines w.now) }
 {
-    let head = head_refusal(w);
-    if head != 0 {
-        return head;
+    head_refusal(w)?;
+    value_refusal_in(w)?;
+    if (w.len() as u64) < (u32::read(w, 4) as u64) {
+        return Err(Number::Cut);
     }
-    let value = value_refusal_in(w);
-    if value != 0 {
-        return value;
-    }
-    if (w.len() as u64) < (read32(w, 4) as u64) {
-        return 10;
-    }
-    let secondary = secondary_refusal(w);
-    if secondary != 0 {
-        return secondary;
-    }
-    trailer_refusal(w)
+    let framed = Framed { bytes: w };
+    secondary_refusal(framed)?;
+    trailer_refusal(framed)
 }
 
-// Where body, filler and sum begin.
-pub fn measure(w: &[u8]) -> Layout
-    requires { Sound w.now }
-    ensures { Measured w.now result }
-{
-    let flags = w[14];
-    let body = body_at(flags);
-    let p = read32(w, 4) as u64;
-    let d = read32(w, 8) as u64;
-    Layout {
-        body: body as usize,
-        filler: (body + d) as usize,
-        sum: (p - sum_length(flags)) as usize,
-    }
-}
-
-// The header's numbers that are not worked out, and the secondary time.
-pub fn fields_in(w: &[u8]) -> Fields
-    requires { Sound w.now }
-    ensures { result ≡ fields_in w.now }
-{
-    Fields {
-        channel: read16(w, 2),
-        version: w[12],
-        sequence: w[13],
-        flags: w[14],
-        kind: w[15],
-        rtc: read48(w, 16),
-        time: time_in(w),
-    }
-}
-
-// 2 to 4, or 0.
-fn head_refusal(w: &[u8]) -> u8
-    ensures { result ≡ first (head_lines w.now) }
+// The first of 2 to 4 that applies.
+#[tactic(auto, unfolding(crate::specs::Table::head_lines, crate::specs::Table::first))]
+fn head_refusal(w: &[u8]) -> Result<(), Number>
+    ensures { told result ≡ first (head_lines w.now) }
 {
     if w.len() < 24 {
-        return 2;
+        return Err(Number::Short);
     }
     if !synced(w) {
-        return 3;
+        return Err(Number::Sync);
     }
-    if !header_summed(w) {
-        return 4;
+    if !summed::<HEADER_WORDS>(w) {
+        return Err(Number::HeaderSum);
     }
-    0
+    Ok(())
 }
 
-fn header_summed(w: &[u8]) -> bool
-    requires { 24 ≤ length w.now }
-    ensures { result ≡ header_summed w.now }
+// Whether the word behind the first N words of a header is their sum.
+#[tactic(auto, unfolding(units::specs::Units::summed))]
+fn summed<const N: usize>(header: &[u8]) -> bool
+    requires { 2 * N + 2 ≤ length header.now }
+    ensures { result ≡ summed 2 N header.now }
 {
-    header_sum(w) == read16(w, 22)
+    header_sum::<N>(header) == u16::read(header, 2 * N)
 }
 
-// 5 to 9, or 0, of a header.
-fn value_refusal_in(w: &[u8]) -> u8
+// The first of 5 to 9 that applies to a header.
+fn value_refusal_in(w: &[u8]) -> Result<(), Number>
     requires { 24 ≤ length w.now }
-    ensures { result ≡ first (values_in w.now) }
+    ensures { told result ≡ first (values_in w.now) }
 {
     value_refusal(
-        read16(w, 2),
+        u16::read(w, 2),
         w[12],
         w[14],
         w[15],
-        read32(w, 4) as u64,
-        read32(w, 8) as u64,
+        u32::read(w, 4) as u64,
+        u32::read(w, 8) as u64,
     )
 }
 
-// 11 and 12, or 0.
-fn secondary_refusal(w: &[u8]) -> u8
-    requires { Sound w.now }
-    ensures { result ≡ first (secondary_lines w.now) }
+// The first of 11 and 12 that applies.
+#[tactic(auto, using(crate::proofs::Stages::no_secondary), unfolding(crate::specs::Table::secondary_lines, crate::specs::Table::first))]
+fn secondary_refusal(framed: Framed) -> Result<(), Number>
+    ensures { told result ≡ first (secondary_lines framed.entry.bytes.now) }
 {
-    if w[14] / 128 % 2 == 0 {
-        return 0;
+    let Some(secondary) = framed.secondary() else {
+        return Ok(());
+    };
+    if !summed::<SECONDARY_WORDS>(secondary) {
+        return Err(Number::SecondarySum);
     }
-    if !secondary_summed(w) {
-        return 11;
+    let reserved = u16::read(secondary, 8);
+    if (reserved != 0) | !secondary_time_ok(framed.bytes[14], u64::read(secondary, 0)) {
+        return Err(Number::Secondary);
     }
-    if !secondary_ok(w) {
-        return 12;
-    }
-    0
+    Ok(())
 }
 
-fn secondary_summed(w: &[u8]) -> bool
-    requires in_bounds { 36 ≤ length w.now }
-    requires w_value { secondary_bit (flags_in w.now) ≡ 1 }
-    ensures { result ≡ secondary_summed w.now }
+// The first of 13 and 14 that applies. The filler is looked at first, so that little is left to be kept beside the sum; as a `bool`
+// the compiler would work it out anew for each byte of its loop.
+#[tactic(auto, unfolding(crate::specs::Table::trailer_lines, crate::specs::Table::first))]
+fn trailer_refusal(framed: Framed) -> Result<(), Number>
+    ensures { told result ≡ first (trailer_lines framed.entry.bytes.now) }
 {
-    let secondary = &w[24..36];
-    secondary_sum(secondary) == read16(secondary, 10)
-}
-
-fn secondary_ok(w: &[u8]) -> bool
-    requires in_bounds { 36 ≤ length w.now }
-    requires w_value { secondary_bit (flags_in w.now) ≡ 1 }
-    ensures { result ≡ secondary_ok w.now }
-{
-    let secondary = &w[24..36];
-    (read16(secondary, 8) == 0) & secondary_time_ok(w[14], read64(secondary, 0))
-}
-
-// The secondary time, 0 if absent.
-fn time_in(w: &[u8]) -> u64
-    requires { Sound w.now }
-    ensures { result ≡ time_in w.now }
-{
-    if w[14] / 128 % 2 == 0 {
-        return 0;
+    let cleared = filler_refusal(framed);
+    if !data_summed(framed) {
+        return Err(Number::DataSum);
     }
-    read64(w, 24)
+    cleared
 }
 
-// 13 and 14, or 0. The data sum is worked out last, when little is left to be kept beside it.
-fn trailer_refusal(w: &[u8]) -> u8
-    requires { Sound w.now }
-    ensures { result ≡ first (trailer_lines w.now) }
+#[tactic(auto, using(crate::proofs::Stages::sumless, units::proofs::Parts::field_one))]
+fn data_summed(framed: Framed) -> bool
+    ensures { result ≡ data_summed framed.entry.bytes.now }
 {
-    let layout = measure(w);
-    let cleared = filler_ok(w, layout);
-    if !data_summed(w, layout) {
-        return 13;
-    }
-    if !cleared {
-        return 14;
-    }
-    0
-}
-
-fn data_summed(w: &[u8], layout: Layout) -> bool
-    requires sound { Sound w.now }
-    requires measured { Measured w.now layout }
-    ensures { result ≡ data_summed w.now }
-{
-    let body = layout.body;
-    let sum = layout.sum;
-    let code = w[14] % 4;
-    if code == 0 {
+    let w = framed.bytes;
+    let Some(width) = Width::of(w[14]) else {
         return true;
+    };
+    let Layout { body, sum, .. } = framed.measure();
+    let filled = &w[body..sum];
+    match width {
+        Width::Bits8 => w[sum] == lanes::<u8>(filled, filled.len()),
+        Width::Bits16 => u16::read(w, sum) == lanes::<u16>(filled, filled.len() / 2),
+        Width::Bits32 => u32::read(w, sum) == lanes::<u32>(filled, filled.len() / 4),
     }
-    let stored = read_sum(w, sum, code);
-    data_sum(&w[body..sum], code) == stored
 }
 
-fn filler_ok(w: &[u8], layout: Layout) -> bool
-    requires sound { Sound w.now }
-    requires measured { Measured w.now layout }
-    ensures { result ≡ filler_ok w.now }
+// 14, where it applies.
+fn filler_refusal(framed: Framed) -> Result<(), Number>
+    ensures { told result ≡ pick (filler_ok framed.entry.bytes.now) 0 14 }
 {
-    let filler = layout.filler;
-    let sum = layout.sum;
-    all_zero(&w[filler..sum])
+    let Layout { filler, sum, .. } = framed.measure();
+    if all_zero(&framed.bytes[filler..sum]) {
+        Ok(())
+    } else {
+        Err(Number::Filler)
+    }
 }

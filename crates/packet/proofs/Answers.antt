@@ -1,4 +1,5 @@
 -- What is said of a packet whose frame is right, from what the functions below say.
+use Rattle.std.specs.Prelude.{Result, Ok, Err, Option, Some, None}
 use mathlib.Core.Path.{◌≡◌, refl, sym, ap, ◌∙◌}
 use mathlib.Core.List.{List}
 use mathlib.Core.Bool.{Bool, true, false}
@@ -8,7 +9,7 @@ use native.Mathlib.Decide.{dec_le}
 use lib.ListN.{length}
 use lib.Dec.{leb, ltb}
 use borrow.Author.Tests.{le-leb, lt-leb, lt-ltb, le-ltb, ltb-true}
-use Rattle.units.specs.Units.{part, field}
+use Rattle.units.specs.Units.{part}
 use Rattle.units.specs.Choice.{pick}
 use Rattle.units.proofs.Parts.{length_part}
 use Rattle.body.specs.Walk.{opens, open_body}
@@ -18,27 +19,18 @@ use Rattle.body.proofs.Bounds.{faulty_place, message_fits}
 use Rattle.terms.specs.declared.TimeRule.{TimeRule}
 use Rattle.terms.specs.declared.Refusal.{Refusal}
 use Rattle.body.specs.declared.Message.{Message}
-use Rattle.body.specs.declared.Checked.{Checked}
-use Rattle.body.specs.declared.Checked.TheVariants.{Counted, Faulty}
-use Rattle.body.specs.declared.Picked.{Picked}
-use Rattle.body.specs.declared.Picked.TheVariants.{One, Unread, Missing}
-use Rattle.body.specs.declared.Listed as body-listed
-use Rattle.body.specs.declared.Listed.TheVariants.{Count, Unlisted as Body-as-Unlisted, NoRoom}
-use Rattle.frame.specs.Header.{packet_length, data_length, flags_in, kind_in, header_sum_in, sum_length, secondary_length, body_at, body_in, fields_in}
+use Rattle.body.specs.declared.Unlisted.{Unlisted}
+use Rattle.frame.specs.Header.{packet_length, data_length, flags_in, kind_in, header_sum_in, data_sum_in, sum_length, secondary_length, body_at, body_in, fields_in}
 use Rattle.frame.specs.Rules.{message_rule}
 use Rattle.frame.specs.inner.Lengths.{Sound, Measured}
 use Rattle.frame.specs.declared.Layout.{Layout}
 use Rattle.frame.specs.declared.Fields.{Fields}
 use Rattle.packet.specs.Read.{part_at, packet_in, body_checked, pass_body}
 use Rattle.packet.specs.Messages.{count_of, message_count, kth_message, list_answer, list_after, starts, lengths, message_answer}
-use Rattle.packet.specs.declared.PacketPass.TheVariants.{Passed, Barred}
-use Rattle.packet.specs.declared.PacketList.{PacketList}
-use Rattle.packet.specs.declared.PacketList.TheVariants.{Listed, Unlisted}
-use Rattle.packet.specs.declared.PacketMessage.{PacketMessage}
-use Rattle.packet.specs.declared.PacketMessage.TheVariants.{Given, Withheld}
+use Rattle.body.specs.declared.Unlisted.TheVariants.{Faulty, NoRoom}
 
 -- a refused call leaves a list as it was
-pub list_kept : (r : Refusal) (entries : ℕ → ℕ) (old : List ℕ) → old ≡ list_after (Unlisted r) entries old
+pub list_kept : (r : Refusal) (entries : ℕ → ℕ) (old : List ℕ) → old ≡ list_after (Err r) entries old
 unfolding list_after
 list_kept r entries old = refl
 
@@ -61,7 +53,7 @@ module _ (w : List ℕ) (l : Layout) (m : Measured w l) (rule : TimeRule) (ruled
   body_length s = ap length body_is ∙ length_part w (body_at (flags_in w)) (data_length w) (omega (arith, s.parts, s.there))
 
   -- a fault's place is within the window
-  pub fault_reach : Sound w → (f : Refusal) → check_body (kind_in w) rule (part w l.body (l.filler - l.body)) ≡ Faulty f → l.body + f.place ≤ length w
+  pub fault_reach : Sound w → (f : Refusal) → check_body (kind_in w) rule (part w l.body (l.filler - l.body)) ≡ Err f → l.body + f.place ≤ length w
   fault_reach s f e =
       let p = faulty_place (kind_in w) rule (part w l.body (l.filler - l.body)) f e in
       omega (arith, p, body_length s, m.body, s.parts, s.there)
@@ -70,22 +62,22 @@ module _ (w : List ℕ) (l : Layout) (m : Measured w l) (rule : TimeRule) (ruled
 
 module _ (w : List ℕ) (at : ℕ) where
   -- a type that isn't opened
-  pub pass_carried : (p : ℕ) → p ≡ packet_length w → opens (kind_in w) ≡ false → Passed p ≡ pass_body (body_checked w) w at
+  pub pass_carried : (p : ℕ) → p ≡ packet_length w → opens (kind_in w) ≡ false → Ok p ≡ pass_body (body_checked w) w at
   unfolding fields_in pass_body body_checked check_body open_body
   pass_carried p q e = rw (e, q)
 
-  pub pass_counted : (n p : ℕ) → body_checked w ≡ Counted n → p ≡ packet_length w → Passed p ≡ pass_body (body_checked w) w at
+  pub pass_counted : (n p : ℕ) → body_checked w ≡ Ok n → p ≡ packet_length w → Ok p ≡ pass_body (body_checked w) w at
   unfolding pass_body
   pass_counted n p e q = rw (e, q)
 
-  pub pass_faulty : (f r : Refusal) (body : ℕ) → body_checked w ≡ Faulty f → body ≡ body_at (flags_in w) → r ≡ moved (at + body) f
-      → Barred r ≡ pass_body (body_checked w) w at
+  pub pass_faulty : (f r : Refusal) (body : ℕ) → body_checked w ≡ Err f → body ≡ body_at (flags_in w) → r ≡ moved (at + body) f
+      → Err r ≡ pass_body (body_checked w) w at
   unfolding pass_body
   pass_faulty f r body e b q = rw (e, q, b)
 
 -- the packet's record
 pub packet_is : (w : List ℕ) (at base : ℕ) (l : Layout) (f : Fields) (p d h x : ℕ) → Sound w → Measured w l → f ≡ fields_in w → p ≡ packet_length w → d ≡ data_length w
-    → h ≡ header_sum_in w → x ≡ field w l.sum (sum_length (flags_in w))
+    → h ≡ header_sum_in w → x ≡ data_sum_in w
     → record {
       fields = f;
       length = p;
@@ -110,7 +102,7 @@ packet_is w at base l f p d h x s m ef ep ed eh ex =
       length = ep i;
       data_length = ed i;
       header_sum = eh i;
-      data_sum = (ex ∙ ap (λ (n : ℕ). field w n (sum_length (flags_in w))) m.sum) i;
+      data_sum = ex i;
       recording_place = base;
       header = part_at at 24;
       secondary = part_at (at + 24) (e₁ i);
@@ -122,29 +114,29 @@ packet_is w at base l f p d h x s m ef ep ed eh ex =
 -- ---- the lists
 
 -- the body's answer as the packet's
-abbrev pub from_listed : ℕ → ℕ → body-listed.Listed → PacketList
-from_listed at body (Count n) = Listed n
-from_listed at body (Body-as-Unlisted f) = Unlisted (moved (at + body) f)
-from_listed at body (NoRoom n) = Unlisted (needing n (refused 16 at))
+abbrev pub from_listed : ℕ → ℕ → Result ℕ Unlisted → Result ℕ Refusal
+from_listed at body (Ok n) = Ok n
+from_listed at body (Err (Faulty f)) = Err (moved (at + body) f)
+from_listed at body (Err (NoRoom n)) = Err (needing n (refused 16 at))
 
-room_same : (at body m n : ℕ) → from_listed at body (pick (leb n m) (Count n) (NoRoom n)) ≡ pick (ltb m n) (Unlisted (needing n (refused 16 at))) (Listed n)
+room_same : (at body m n : ℕ) → from_listed at body (pick (leb n m) (Ok n) (Err (NoRoom n))) ≡ pick (ltb m n) (Err (needing n (refused 16 at))) (Ok n)
 room_same at body m n = go (dec_le n m)
   where
-    go : Dec (n ≤ m) → from_listed at body (pick (leb n m) (Count n) (NoRoom n)) ≡ pick (ltb m n) (Unlisted (needing n (refused 16 at))) (Listed n)
+    go : Dec (n ≤ m) → from_listed at body (pick (leb n m) (Ok n) (Err (NoRoom n))) ≡ pick (ltb m n) (Err (needing n (refused 16 at))) (Ok n)
     go (yes h) = rw (le-leb n m h, le-ltb m n h)
     go (no h) = rw (lt-leb n m (omega arith), lt-ltb m n (omega arith))
 
-pub listed_is : (w : List ℕ) (at len₁ len₂ : ℕ) (c : Checked)
+pub listed_is : (w : List ℕ) (at len₁ len₂ : ℕ) (c : Result ℕ Refusal)
     → from_listed at (body_at (flags_in w)) (list_counted len₁ len₂ c) ≡ list_answer (pass_body c w at) at (count_of c) (min len₁ len₂)
 unfolding list_counted list_answer pass_body
-listed_is w at len₁ len₂ (Counted n) = room_same at (body_at (flags_in w)) (min len₁ len₂) n
-listed_is w at len₁ len₂ (Faulty f) = refl
+listed_is w at len₁ len₂ (Ok n) = room_same at (body_at (flags_in w)) (min len₁ len₂) n
+listed_is w at len₁ len₂ (Err f) = refl
 
-pub after_listed : (at body : ℕ) (x : body-listed.Listed) (f g : ℕ → ℕ) (old : List ℕ) → f ≡ g → filled_after x f old ≡ list_after (from_listed at body x) g old
+pub after_listed : (at body : ℕ) (x : Result ℕ Unlisted) (f g : ℕ → ℕ) (old : List ℕ) → f ≡ g → filled_after x f old ≡ list_after (from_listed at body x) g old
 unfolding filled_after list_after
-after_listed at body (Count n) f g old e = rw e
-after_listed at body (Body-as-Unlisted r) f g old e = refl
-after_listed at body (NoRoom n) f g old e = refl
+after_listed at body (Ok n) f g old e = rw e
+after_listed at body (Err (Faulty r)) f g old e = refl
+after_listed at body (Err (NoRoom n)) f g old e = refl
 
 module _ (w : List ℕ) (at : ℕ) (l : Layout) (m : Measured w l) (rule : TimeRule) (ruled : rule ≡ message_rule (flags_in w)) where
   abbrev bytes : List ℕ
@@ -163,7 +155,7 @@ module _ (w : List ℕ) (at : ℕ) (l : Layout) (m : Measured w l) (rule : TimeR
   lengths_are = λ i k. (message_is w l m rule ruled k i).length
 
   -- x is what the body's lister said, in the case y; a is what the code makes of it
-  pub list_says : (len₁ len₂ : ℕ) (x y : body-listed.Listed) (a : PacketList) (olds news oldl newl : List ℕ) → x ≡ y → a ≡ from_listed at l.body y
+  pub list_says : (len₁ len₂ : ℕ) (x y : Result ℕ Unlisted) (a : Result ℕ Refusal) (olds news oldl newl : List ℕ) → x ≡ y → a ≡ from_listed at l.body y
       → x ≡ list_of (kind_in w) rule bytes len₁ len₂
       → news ≡ filled_after x (starts_of l.body (message_in (kind_in w) rule bytes)) olds
       → newl ≡ filled_after x (lengths_of (message_in (kind_in w) rule bytes)) oldl
@@ -173,21 +165,21 @@ module _ (w : List ℕ) (at : ℕ) (l : Layout) (m : Measured w l) (rule : TimeR
   list_says len₁ len₂ x y a olds news oldl newl given made says lists listl =
       let e : a ≡ from_listed at l.body x = made ∙ ap (from_listed at l.body) (sym given) in (
         e ∙ ap (from_listed at l.body) says ∙ list_answer_lem len₁ len₂,
-        lists ∙ after_listed at l.body x _ (starts w) olds starts_are ∙ ap (λ (z : PacketList). list_after z (starts w) olds) (sym e),
-        listl ∙ after_listed at l.body x _ (lengths w) oldl lengths_are ∙ ap (λ (z : PacketList). list_after z (lengths w) oldl) (sym e),
+        lists ∙ after_listed at l.body x _ (starts w) olds starts_are ∙ ap (λ (z : Result ℕ Refusal). list_after z (starts w) olds) (sym e),
+        listl ∙ after_listed at l.body x _ (lengths w) oldl lengths_are ∙ ap (λ (z : Result ℕ Refusal). list_after z (lengths w) oldl) (sym e),
       )
 
-pub unlisted_faulty : (kind : ℕ) (rule : TimeRule) (bs : List ℕ) (len₁ len₂ : ℕ) (f : Refusal) → list_of kind rule bs len₁ len₂ ≡ Body-as-Unlisted f → check_body kind rule bs ≡ Faulty f
+pub unlisted_faulty : (kind : ℕ) (rule : TimeRule) (bs : List ℕ) (len₁ len₂ : ℕ) (f : Refusal) → list_of kind rule bs len₁ len₂ ≡ Err (Faulty f) → check_body kind rule bs ≡ Err f
 unfolding list_of list_counted
 unlisted_faulty kind rule bs len₁ len₂ f e = go (check_body kind rule bs) refl e
   where
-    full : (t : Bool) (n : ℕ) → pick t (Count n) (NoRoom n) ≡ Body-as-Unlisted f → check_body kind rule bs ≡ Faulty f
+    full : (t : Bool) (n : ℕ) → pick t (Ok n) (Err (NoRoom n)) ≡ Err (Faulty f) → check_body kind rule bs ≡ Err f
     full true n q = let z : ◌≡◌ {A = ℕ} 0 1 = cc in absurd (omega arith)
     full false n q = let z : ◌≡◌ {A = ℕ} 0 1 = cc in absurd (omega arith)
 
-    go : (c : Checked) → check_body kind rule bs ≡ c → list_counted len₁ len₂ c ≡ Body-as-Unlisted f → check_body kind rule bs ≡ Faulty f
-    go (Counted n) h q = full (leb n (min len₁ len₂)) n q
-    go (Faulty g) h q = h ∙ cc
+    go : (c : Result ℕ Refusal) → check_body kind rule bs ≡ c → list_counted len₁ len₂ c ≡ Err (Faulty f) → check_body kind rule bs ≡ Err f
+    go (Ok n) h q = full (leb n (min len₁ len₂)) n q
+    go (Err g) h q = h ∙ cc
 
 -- ---- one message
 
@@ -195,23 +187,23 @@ unlisted_faulty kind rule bs len₁ len₂ f e = go (check_body kind rule bs) re
 abbrev pub in_packet : ℕ → Message → Message
 in_packet body m = record { time = m.time; id = m.id; start = body + m.start; length = m.length }
 
-abbrev pub from_picked : ℕ → ℕ → Picked → PacketMessage
-from_picked at body (One m) = Given (in_packet body m)
-from_picked at body (Unread f) = Withheld (moved (at + body) f)
-from_picked at body Missing = Withheld (refused 17 at)
+abbrev pub from_picked : ℕ → ℕ → Result (Option Message) Refusal → Result Message Refusal
+from_picked at body (Ok (Some m)) = Ok (in_packet body m)
+from_picked at body (Err f) = Err (moved (at + body) f)
+from_picked at body (Ok None) = Err (refused 17 at)
 
-number_same : (at body k n : ℕ) (m : Message) → from_picked at body (pick (ltb k n) (One m) Missing) ≡ pick (leb n k) (Withheld (refused 17 at)) (Given (in_packet body m))
+number_same : (at body k n : ℕ) (m : Message) → from_picked at body (pick (ltb k n) (Ok (Some m)) (Ok None)) ≡ pick (leb n k) (Err (refused 17 at)) (Ok (in_packet body m))
 number_same at body k n m = go (dec_le n k)
   where
-    go : Dec (n ≤ k) → from_picked at body (pick (ltb k n) (One m) Missing) ≡ pick (leb n k) (Withheld (refused 17 at)) (Given (in_packet body m))
+    go : Dec (n ≤ k) → from_picked at body (pick (ltb k n) (Ok (Some m)) (Ok None)) ≡ pick (leb n k) (Err (refused 17 at)) (Ok (in_packet body m))
     go (yes h) = rw (le-leb n k h, le-ltb k n h)
     go (no h) = rw (lt-leb n k (omega arith), lt-ltb k n (omega arith))
 
-pub picked_is : (w : List ℕ) (at k : ℕ) (m : Message) (c : Checked)
+pub picked_is : (w : List ℕ) (at k : ℕ) (m : Message) (c : Result ℕ Refusal)
     → from_picked at (body_at (flags_in w)) (pick_counted k m c) ≡ message_answer (pass_body c w at) at (count_of c) k (in_packet (body_at (flags_in w)) m)
 unfolding pick_counted message_answer pass_body
-picked_is w at k m (Counted n) = number_same at (body_at (flags_in w)) k n m
-picked_is w at k m (Faulty f) = refl
+picked_is w at k m (Ok n) = number_same at (body_at (flags_in w)) k n m
+picked_is w at k m (Err f) = refl
 
 module _ (w : List ℕ) (at : ℕ) (l : Layout) (m : Measured w l) (rule : TimeRule) (ruled : rule ≡ message_rule (flags_in w)) (k : ℕ) where
   abbrev whole : List ℕ
@@ -224,40 +216,41 @@ module _ (w : List ℕ) (at : ℕ) (l : Layout) (m : Measured w l) (rule : TimeR
       (picked_is w at k (message_in (kind_in w) (message_rule (flags_in w)) (body_in w) k) (body_checked w))
 
   -- x is what the body's call said, in the case y; a is what the code makes of it
-  pub message_says : (x y : Picked) (a : PacketMessage) → x ≡ y → a ≡ from_picked at l.body y → x ≡ message_at (kind_in w) rule whole k
+  pub message_says : (x y : Result (Option Message) Refusal) (a : Result Message Refusal) → x ≡ y → a ≡ from_picked at l.body y → x ≡ message_at (kind_in w) rule whole k
       → a ≡ message_answer (pass_body (body_checked w) w at) at (message_count w) k (kth_message w k)
   message_says x y a given made says = made ∙ ap (from_picked at l.body) (sym given ∙ says) ∙ message_answer_lem
 
-pub unread_faulty : (kind : ℕ) (rule : TimeRule) (bs : List ℕ) (k : ℕ) (f : Refusal) → message_at kind rule bs k ≡ Unread f → check_body kind rule bs ≡ Faulty f
+pub unread_faulty : (kind : ℕ) (rule : TimeRule) (bs : List ℕ) (k : ℕ) (f : Refusal) → message_at kind rule bs k ≡ Err f → check_body kind rule bs ≡ Err f
 unfolding message_at pick_counted
 unread_faulty kind rule bs k f e = go (check_body kind rule bs) refl e
   where
-    some : (t : Bool) → pick t (One (message_in kind rule bs k)) Missing ≡ Unread f → check_body kind rule bs ≡ Faulty f
+    some : (t : Bool) → pick t (Ok (Some (message_in kind rule bs k))) (Ok None) ≡ Err f → check_body kind rule bs ≡ Err f
     some true q = let z : ◌≡◌ {A = ℕ} 0 1 = cc in absurd (omega arith)
     some false q = let z : ◌≡◌ {A = ℕ} 0 1 = cc in absurd (omega arith)
 
-    go : (c : Checked) → check_body kind rule bs ≡ c → pick_counted k (message_in kind rule bs k) c ≡ Unread f → check_body kind rule bs ≡ Faulty f
-    go (Counted n) h q = some (ltb k n) q
-    go (Faulty g) h q = h ∙ cc
+    go : (c : Result ℕ Refusal) → check_body kind rule bs ≡ c → pick_counted k (message_in kind rule bs k) c ≡ Err f → check_body kind rule bs ≡ Err f
+    go (Ok n) h q = some (ltb k n) q
+    go (Err g) h q = h ∙ cc
 
 -- a message's bytes begin within the body
-one_start : (kind : ℕ) (rule : TimeRule) (bs : List ℕ) (k : ℕ) (m : Message) → message_at kind rule bs k ≡ One m → m.start ≤ length bs
+one_start : (kind : ℕ) (rule : TimeRule) (bs : List ℕ) (k : ℕ) (m : Message) → message_at kind rule bs k ≡ Ok (Some m) → m.start ≤ length bs
 unfolding message_at pick_counted
 one_start kind rule bs k m e = go (check_body kind rule bs) refl e
   where
-    inside_of : (n : ℕ) → check_body kind rule bs ≡ Counted n → (t : Bool) → ltb k n ≡ t → pick t (One (message_in kind rule bs k)) Missing ≡ One m → m.start ≤ length bs
+    inside_of : (n : ℕ) → check_body kind rule bs ≡ Ok n → (t : Bool) → ltb k n ≡ t
+        → ◌≡◌ {A = Result (Option Message) Refusal} (pick t (Ok (Some (message_in kind rule bs k))) (Ok None)) (Ok (Some m)) → m.start ≤ length bs
     inside_of n h true t q =
         let same : (message_in kind rule bs k).start ≡ m.start = cc in
         omega (arith, message_fits kind rule bs n k h (ltb-true k n t), same)
     inside_of n h false t q = let z : ◌≡◌ {A = ℕ} 0 1 = cc in absurd (omega arith)
 
-    go : (c : Checked) → check_body kind rule bs ≡ c → pick_counted k (message_in kind rule bs k) c ≡ One m → m.start ≤ length bs
-    go (Counted n) h q = inside_of n h (ltb k n) refl q
-    go (Faulty g) h q = let z : ◌≡◌ {A = ℕ} 0 1 = cc in absurd (omega arith)
+    go : (c : Result ℕ Refusal) → check_body kind rule bs ≡ c → pick_counted k (message_in kind rule bs k) c ≡ Ok (Some m) → m.start ≤ length bs
+    go (Ok n) h q = inside_of n h (ltb k n) refl q
+    go (Err g) h q = let z : ◌≡◌ {A = ℕ} 0 1 = cc in absurd (omega arith)
 
 -- and within the window
 pub start_reach : (w : List ℕ) (l : Layout) (m : Measured w l) (rule : TimeRule) → rule ≡ message_rule (flags_in w) → Sound w → (k : ℕ) (x : Message)
-    → message_at (kind_in w) rule (part w l.body (l.filler - l.body)) k ≡ One x → l.body + x.start ≤ length w
+    → message_at (kind_in w) rule (part w l.body (l.filler - l.body)) k ≡ Ok (Some x) → l.body + x.start ≤ length w
 start_reach w l m rule ruled s k x e =
     let p = one_start (kind_in w) rule (part w l.body (l.filler - l.body)) k x e in
     omega (arith, p, body_length w l m rule ruled s, m.body, s.parts, s.there)

@@ -1,4 +1,5 @@
 -- Demand 1: what is said of an accepted packet depends on its own bytes alone, and its parts make it up.
+use Rattle.std.specs.Prelude.{Result, Ok, Err}
 use mathlib.Core.Path.{◌≡◌, refl, sym, ap, ◌∙◌}
 use mathlib.Core.List.{List, ◌++◌}
 use Prim.Native.Nat.{ℕ, ◌+◌, ◌≤◌, ◌<◌}
@@ -18,9 +19,7 @@ use Rattle.packet.proofs.Window.{own_part, entries_told}
 use Rattle.packet.specs.Read.{inside, window, packet_in, body_checked, pass_bytes, pass_window, read_answer, read_packet, Together}
 use Rattle.packet.specs.Messages.{message_count, kth_message, list_packet, starts, lengths, message_packet, entries}
 use Rattle.packet.specs.declared.Packet.{Packet}
-use Rattle.packet.specs.declared.PacketPass.{PacketPass}
-use Rattle.packet.specs.declared.PacketPass.TheVariants.{Passed, Barred}
-use Rattle.packet.specs.declared.PacketRead.TheVariants.{Accepted}
+use Rattle.terms.specs.declared.Refusal.{Refusal}
 
 -- ---- what acceptance says
 
@@ -35,15 +34,15 @@ pub packet_in_length : (w : List ℕ) (at base : ℕ) → packet_length w ≡ (p
 unfolding packet_in
 packet_in_length w at base = refl
 
-pub accepted_at : (buf : List ℕ) (s e base : ℕ) (p : Packet) → read_packet buf s e base ≡ Accepted p → AcceptedAt buf s e base p
+pub accepted_at : (buf : List ℕ) (s e base : ℕ) (p : Packet) → read_packet buf s e base ≡ Ok p → AcceptedAt buf s e base p
 unfolding read_packet read_answer pass_window
 accepted_at buf s e base p h = go (pass_window buf s e base) refl h
   where
-    go : (x : PacketPass) → pass_window buf s e base ≡ x → read_answer x (window buf s e) s base ≡ Accepted p → AcceptedAt buf s e base p
-    go (Barred r) q a = let z : ◌≡◌ {A = ℕ} 0 1 = cc a in absurd (omega arith)
-    go (Passed n) q a =
+    go : (x : Result ℕ Refusal) → pass_window buf s e base ≡ x → read_answer x (window buf s e) s base ≡ Ok p → AcceptedAt buf s e base p
+    go (Err r) q a = let z : ◌≡◌ {A = ℕ} 0 1 = cc a in absurd (omega arith)
+    go (Ok n) q a =
         let w = window buf s e in
-        let k = passed (not (inside buf s e base)) (Barred (refused 1 s)) (pass_bytes w s) (Passed n) (barred_passed _ n) q in
+        let k = passed (not (inside buf s e base)) (Err (refused 1 s)) (pass_bytes w s) (Ok n) (barred_passed _ n) q in
         let i = inside_says buf s e base (not-false (inside buf s e base) k.0) in
         let b = bytes_passed w s n k.1 in
         let is : p ≡ packet_in w s base = cc a in
@@ -51,13 +50,13 @@ accepted_at buf s e base p h = go (pass_window buf s e base) refl h
         record { inside = i; passes = rw long at b; packet = is; reach = window_ends buf s e base i }
 
 -- its tests are passed
-pub accepted_pass : (buf : List ℕ) (s e base : ℕ) (p : Packet) → read_packet buf s e base ≡ Accepted p → pass_window buf s e base ≡ Passed p.length
+pub accepted_pass : (buf : List ℕ) (s e base : ℕ) (p : Packet) → read_packet buf s e base ≡ Ok p → pass_window buf s e base ≡ Ok p.length
 accepted_pass buf s e base p h =
     let a = accepted_at buf s e base p h in
     pass_inside buf s e base (inside_made buf s e base a.inside) ∙ passed_bytes (window buf s e) s p.length a.passes
 
 pub at_accepted : (buf : List ℕ) (s e base : ℕ) (p : Packet) → Inside buf s e base → PassedBytes (window buf s e) p.length
-    → p ≡ packet_in (window buf s e) s base → read_packet buf s e base ≡ Accepted p
+    → p ≡ packet_in (window buf s e) s base → read_packet buf s e base ≡ Ok p
 at_accepted buf s e base p i b is =
     sym (read_passed buf s e base p.length p (pass_inside buf s e base (inside_made buf s e base i) ∙ passed_bytes (window buf s e) s p.length b) is)
 
@@ -66,7 +65,7 @@ pub record AcceptedFits (s e n : ℕ) : Type 0 where
   pub some : 24 < n
   pub within : s + n ≤ e
 
-pub accepted_fits : (buf : List ℕ) (s e base : ℕ) (p : Packet) → read_packet buf s e base ≡ Accepted p → AcceptedFits s e p.length
+pub accepted_fits : (buf : List ℕ) (s e base : ℕ) (p : Packet) → read_packet buf s e base ≡ Ok p → AcceptedFits s e p.length
 accepted_fits buf s e base p h =
     let a = accepted_at buf s e base p h in
     let w = a.passes.sound in
@@ -105,7 +104,7 @@ module _ (v t : List ℕ) (header : 24 ≤ length v) (there : packet_length v �
 
 -- ---- the bytes behind an accepted packet's declared length have no say, nor has the end beyond it
 
-module _ (a b : List ℕ) (s e f base : ℕ) (p : Packet) (h : read_packet a s e base ≡ Accepted p) (ends : s + p.length ≤ f) (in_b : Inside b s f base)
+module _ (a b : List ℕ) (s e f base : ℕ) (p : Packet) (h : read_packet a s e base ≡ Ok p) (ends : s + p.length ≤ f) (in_b : Inside b s f base)
     (same : part a s p.length ≡ part b s p.length) where
   -- whatever is said of a packet alone is the same of both windows
   own : {A : Type 0} (said : List ℕ → A) → OfFront said → said (window b s f) ≡ said (window a s e)
@@ -131,7 +130,7 @@ module _ (a b : List ℕ) (s e f base : ℕ) (p : Packet) (h : read_packet a s e
         long = at.long ∙ sym (own packet_length (λ v t header there parts. packet_length_front v t header there parts));
       }
 
-  pub own_read : read_packet b s f base ≡ Accepted p
+  pub own_read : read_packet b s f base ≡ Ok p
   own_read =
       at_accepted b s f base p in_b own_passes
       ((accepted_at a s e base p h).packet ∙ sym (own (λ w. packet_in w s base) (λ v t header there parts. packet_front v t header there parts s base)))
@@ -170,7 +169,7 @@ unfolding packet_in
 sound_together w at base s =
     record { header = refl; secondary = refl; body = omega arith; filler = omega arith; sum = omega (arith, s.parts); all = omega (arith, s.parts) }
 
-pub together : (buf : List ℕ) (s e base : ℕ) (p : Packet) → read_packet buf s e base ≡ Accepted p → Together s p
+pub together : (buf : List ℕ) (s e base : ℕ) (p : Packet) → read_packet buf s e base ≡ Ok p → Together s p
 together buf s e base p h =
     let a = accepted_at buf s e base p h in
     rw a.packet (sound_together (window buf s e) s base a.passes.sound)

@@ -1,4 +1,5 @@
 -- Demand 1: nothing outside the window changes an answer, nor the entries of the lists.
+use Rattle.std.specs.Prelude.{Result, Ok, Err}
 use mathlib.Core.Path.{◌≡◌, refl, ◌∙◌, sym}
 use mathlib.Core.List.{List}
 use mathlib.Core.Bool.{Bool, true, false}
@@ -16,49 +17,46 @@ use Rattle.body.proofs.Reading.{length_tab}
 use Rattle.packet.specs.Read.{window, pass_window, read_packet}
 use Rattle.packet.proofs.Passes.{inside_same}
 use Rattle.packet.specs.Messages.{message_count, list_answer, recorded_list, list_packet, list_after, starts, lengths, message_packet, list_told, entries}
-use Rattle.packet.specs.declared.PacketPass.{PacketPass}
-use Rattle.packet.specs.declared.PacketPass.TheVariants.{Passed, Barred}
-use Rattle.packet.specs.declared.PacketList.{PacketList}
-use Rattle.packet.specs.declared.PacketList.TheVariants.{Listed, Unlisted}
+use Rattle.terms.specs.declared.Refusal.{Refusal}
 
 -- ---- the lists
 
 -- what a list held before has no say in them
-pub entries_told : (r : PacketList) (values : ℕ → ℕ) (old old' : List ℕ) → entries r values old ≡ entries r values old'
+pub entries_told : (r : Result ℕ Refusal) (values : ℕ → ℕ) (old old' : List ℕ) → entries r values old ≡ entries r values old'
 unfolding list_after filled
-entries_told (Listed n) values old old' =
+entries_told (Ok n) values old old' =
     take_at (tab n values) (drop n old) n (length_tab n values) ∙ sym (take_at (tab n values) (drop n old') n (length_tab n values))
-entries_told (Unlisted r) values old old' = refl
+entries_told (Err r) values old old' = refl
 
 -- those past the count are what they were
-pub entries_kept : (r : PacketList) (values : ℕ → ℕ) (old : List ℕ) → drop (list_told r).count (list_after r values old) ≡ drop (list_told r).count old
+pub entries_kept : (r : Result ℕ Refusal) (values : ℕ → ℕ) (old : List ℕ) → drop (list_told r).count (list_after r values old) ≡ drop (list_told r).count old
 unfolding list_after filled
-entries_kept (Listed n) values old = drop_at (tab n values) (drop n old) n (length_tab n values)
-entries_kept (Unlisted r) values old = refl
+entries_kept (Ok n) values old = drop_at (tab n values) (drop n old) n (length_tab n values)
+entries_kept (Err r) values old = refl
 
 -- the count fits the shorter list, and so a list keeps its length
-counted_fits : (x : PacketPass) (at n room : ℕ) → (list_told (list_answer x at n room)).count ≤ room
+counted_fits : (x : Result ℕ Refusal) (at n room : ℕ) → (list_told (list_answer x at n room)).count ≤ room
 unfolding list_answer
-counted_fits (Passed p) at n room = go (ltb room n) refl
+counted_fits (Ok p) at n room = go (ltb room n) refl
   where
-    go : (t : Bool) → ltb room n ≡ t → (list_told (pick t (Unlisted (needing n (refused 16 at))) (Listed n))).count ≤ room
+    go : (t : Bool) → ltb room n ≡ t → (list_told (pick t (Err (needing n (refused 16 at))) (Ok n))).count ≤ room
     go true e = omega arith
     go false e = ltb-false room n e
-counted_fits (Barred r) at n room = omega arith
+counted_fits (Err r) at n room = omega arith
 
 -- its place in the recording has no say in the count
-recorded_count : (base s : ℕ) (x : PacketList) → (list_told (recorded_list base s x)).count ≡ (list_told x).count
-recorded_count base s (Listed n) = refl
-recorded_count base s (Unlisted r) = refl
+recorded_count : (base s : ℕ) (x : Result ℕ Refusal) → (list_told (recorded_list base s x)).count ≡ (list_told x).count
+recorded_count base s (Ok n) = refl
+recorded_count base s (Err r) = refl
 
 pub count_fits : (buf : List ℕ) (s e base m n : ℕ) → (list_told (list_packet buf s e base m n)).count ≤ min m n
 unfolding list_packet
 count_fits buf s e base m n = rw (recorded_count base s _) (counted_fits (pass_window buf s e base) s (message_count (window buf s e)) (min m n))
 
-pub length_after : (r : PacketList) (values : ℕ → ℕ) (old : List ℕ) → (list_told r).count ≤ length old → length (list_after r values old) ≡ length old
+pub length_after : (r : Result ℕ Refusal) (values : ℕ → ℕ) (old : List ℕ) → (list_told r).count ≤ length old → length (list_after r values old) ≡ length old
 unfolding list_after filled
-length_after (Listed n) values old h = simp (length-append, length_tab, length-drop) (omega arith)
-length_after (Unlisted r) values old h = refl
+length_after (Ok n) values old h = simp (length-append, length_tab, length-drop) (omega arith)
+length_after (Err r) values old h = refl
 
 -- ---- the window
 

@@ -1,4 +1,5 @@
 -- What the writer says, from what the functions below it say.
+use Rattle.std.specs.Prelude.{Result, Ok, Err}
 use mathlib.Core.Path.{◌≡◌, refl, sym, ap, ◌∙◌}
 use mathlib.Core.List.{List, [], ◌∷◌}
 use mathlib.Core.Bool.{Bool, true, false, ◌||◌}
@@ -16,8 +17,6 @@ use Rattle.terms.specs.Refusals.{refused, needing, placed}
 use Rattle.body.specs.Answers.{check_body}
 use Rattle.terms.specs.declared.TimeRule.{TimeRule}
 use Rattle.terms.specs.declared.Refusal.{Refusal}
-use Rattle.body.specs.declared.Checked.{Checked}
-use Rattle.body.specs.declared.Checked.TheVariants.{Counted, Faulty}
 use Rattle.frame.specs.declared.Fields.{Fields}
 use Rattle.frame.specs.Header.{secondary_bit, length_for}
 use Rattle.frame.specs.Rules.{secondary_time_ok, message_rule}
@@ -27,8 +26,6 @@ use Rattle.frame.specs.Table.{line, value_lines}
 use Rattle.frame.proofs.Tables.{holds, stage_first}
 use Rattle.frame.proofs.Frames.{valued_says, lengths_say, limit_cap}
 use Rattle.packet.specs.Write.{in_range, writer_lines, writer_refusal, fitted, write_packet, out_after}
-use Rattle.packet.specs.declared.PacketWrite.{PacketWrite}
-use Rattle.packet.specs.declared.PacketWrite.TheVariants.{Written, Unwritten}
 
 -- ---- 17, in words: RTC below 2^48; a secondary time other than 0 only with bit 7 set
 
@@ -53,43 +50,42 @@ range_made f small none = rw (lt-ltb f.rtc (2 ^ 48) small) (go (dec_le 1 (second
 
 -- ---- 15 and 16; x is what the body's check said
 
-module _ (c : Contents) (rule : TimeRule) (x : Checked) (n room : ℕ) (ruled : rule ≡ message_rule c.fields.flags) (says : x ≡ check_body c.fields.kind rule c.body) where
+module _ (c : Contents) (rule : TimeRule) (x : Result ℕ Refusal) (n room : ℕ) (ruled : rule ≡ message_rule c.fields.flags) (says : x ≡ check_body c.fields.kind rule c.body) where
   fitted_as : fitted x n room ≡ fitted (contents_checked c) n room
-  fitted_as = ap (λ (y : Checked). fitted y n room) (says ∙ ap (λ (r : TimeRule). check_body c.fields.kind r c.body) ruled)
+  fitted_as = ap (λ (y : Result ℕ Refusal). fitted y n room) (says ∙ ap (λ (r : TimeRule). check_body c.fields.kind r c.body) ruled)
 
-  pub fit_short : (k : ℕ) (r : Refusal) → x ≡ Counted k → room < n → r ≡ needing n (refused 16 0) → Unwritten r ≡ fitted (contents_checked c) n room
+  pub fit_short : (k : ℕ) (r : Refusal) → x ≡ Ok k → room < n → r ≡ needing n (refused 16 0) → Err r ≡ fitted (contents_checked c) n room
   unfolding fitted
   fit_short k r e h q = rw (q, ← fitted_as, e, lt-ltb room n h)
 
-  pub fit_room : (k : ℕ) → x ≡ Counted k → n ≤ room → Written n ≡ fitted (contents_checked c) n room
+  pub fit_room : (k : ℕ) → x ≡ Ok k → n ≤ room → Ok n ≡ fitted (contents_checked c) n room
   unfolding fitted
   fit_room k e h = rw (← fitted_as, e, le-ltb room n h)
 
-  pub fit_faulty : (g r : Refusal) → x ≡ Faulty g → r ≡ placed 0 g → Unwritten r ≡ fitted (contents_checked c) n room
+  pub fit_faulty : (g r : Refusal) → x ≡ Err g → r ≡ placed 0 g → Err r ≡ fitted (contents_checked c) n room
   unfolding fitted
   fit_faulty g r e q = rw (q, ← fitted_as, e)
 
 -- a packet that is written fits its output
-pub written_room : (c : Checked) (n room k : ℕ) → fitted c n room ≡ Written k → n ≤ room
+pub written_room : (c : Result ℕ Refusal) (n room k : ℕ) → fitted c n room ≡ Ok k → n ≤ room
 unfolding fitted
-written_room (Counted m) n room k e = go (ltb room n) refl e
+written_room (Ok m) n room k e = go (ltb room n) refl e
   where
-    go : (t : Bool) → ltb room n ≡ t → pick t (Unwritten (needing n (refused 16 0))) (Written n) ≡ Written k → n ≤ room
+    go : (t : Bool) → ltb room n ≡ t → pick t (Err (needing n (refused 16 0))) (Ok n) ≡ Ok k → n ≤ room
     go true t q = let z : ◌≡◌ {A = ℕ} 0 1 = cc in absurd (omega arith)
     go false t q = ltb-false room n t
-written_room (Faulty r) n room k e = let z : ◌≡◌ {A = ℕ} 0 1 = cc in absurd (omega arith)
+written_room (Err r) n room k e = let z : ◌≡◌ {A = ℕ} 0 1 = cc in absurd (omega arith)
 
--- ---- the whole; number is what the code found, p the packet's length
+-- ---- the whole
 
-module _ (c : Contents) (room number : ℕ) (is : number ≡ writer_refusal c.fields (length c.body)) where
-  pub write_refused : (r : Refusal) → (number ≡ 0 → ⊥) → r ≡ refused number 0 → Unwritten r ≡ write_packet c room
+module _ (c : Contents) (room : ℕ) where
+  pub write_refused : (r : Refusal) → (writer_refusal c.fields (length c.body) ≡ 0 → ⊥) → r ≡ refused (writer_refusal c.fields (length c.body)) 0 → Err r ≡ write_packet c room
   unfolding write_packet
-  write_refused r other q = rw (q, ← is, ne_eqb number 0 other)
+  write_refused r other q = rw (q, ne_eqb (writer_refusal c.fields (length c.body)) 0 other)
 
-  pub write_on : (p : ℕ) (x : PacketWrite) → number ≡ 0 → p ≡ length_for c.fields.flags (length c.body) → x ≡ fitted (contents_checked c) p room
-      → x ≡ write_packet c room
+  pub write_on : (p : ℕ) → p ≡ length_for c.fields.flags (length c.body) → writer_refusal c.fields (length c.body) ≡ 0 → fitted (contents_checked c) p room ≡ write_packet c room
   unfolding write_packet
-  write_on p x z e q = let none : writer_refusal c.fields (length c.body) ≡ 0 = sym is ∙ z in q ∙ rw (none, e)
+  write_on p is z = rw (is, z)
 
 -- P is within its limit
 pub write_capped : (f : Fields) (d : ℕ) → writer_refusal f d ≡ 0 → length_for f.flags d ≤ 134217728
@@ -102,10 +98,10 @@ write_capped f d z =
 
 -- ---- the output
 
-pub out_kept : (x : PacketWrite) (r : Refusal) (old bytes : List ℕ) → x ≡ Unwritten r → old ≡ out_after x old bytes
+pub out_kept : (x : Result ℕ Refusal) (r : Refusal) (old bytes : List ℕ) → x ≡ Err r → old ≡ out_after x old bytes
 unfolding out_after
-out_kept x r old bytes e = ap (λ (y : PacketWrite). out_after y old bytes) (sym e)
+out_kept x r old bytes e = ap (λ (y : Result ℕ Refusal). out_after y old bytes) (sym e)
 
-pub out_put : (x : PacketWrite) (n : ℕ) (old new bytes : List ℕ) → x ≡ Written n → new ≡ splice old 0 bytes → new ≡ out_after x old bytes
+pub out_put : (x : Result ℕ Refusal) (n : ℕ) (old new bytes : List ℕ) → x ≡ Ok n → new ≡ splice old 0 bytes → new ≡ out_after x old bytes
 unfolding out_after
-out_put x n old new bytes e q = q ∙ ap (λ (y : PacketWrite). out_after y old bytes) (sym e)
+out_put x n old new bytes e q = q ∙ ap (λ (y : Result ℕ Refusal). out_after y old bytes) (sym e)

@@ -1,22 +1,16 @@
 -- The one-packet reader (document 01, "The window" and "What each call says no to"), and places in the recording (document 02 §9).
-use Rattle.std.specs.Prelude.{◌≡◌, List, Bool, not, ◌&&◌, ℕ, ◌+◌, ◌-◌, ◌^◌, length, leb, ltb, eqb}
+use Rattle.std.specs.Prelude.{◌≡◌, List, Bool, not, ◌&&◌, ℕ, ◌+◌, ◌-◌, ◌^◌, length, leb, ltb, eqb, Result, Ok, Err}
 use Rattle.units.specs.Units.{part}
 use Rattle.units.specs.Choice.{pick}
 use Rattle.terms.specs.Refusals.{refused, no_refusal, moved, recorded}
 use Rattle.terms.specs.declared.Refusal.{Refusal}
 use Rattle.body.specs.Answers.{check_body}
-use Rattle.body.specs.declared.Checked.{Checked}
-use Rattle.body.specs.declared.Checked.TheVariants.{Counted, Faulty}
 use Rattle.frame.specs.Header.{packet_length, data_length, flags_in, header_sum_in, sum_length, secondary_length, body_at, filler_at, sum_at, filler_length, data_sum_in, fields_in}
 use Rattle.frame.specs.Contents.{Contents, contents_in}
 use Rattle.frame.specs.Rules.{message_rule}
 use Rattle.frame.specs.Table.{first, frame_lines}
 use Rattle.packet.specs.declared.Part.{Part}
 use Rattle.packet.specs.declared.Packet.{Packet}
-use Rattle.packet.specs.declared.PacketPass.{PacketPass}
-use Rattle.packet.specs.declared.PacketPass.TheVariants.{Passed, Barred}
-use Rattle.packet.specs.declared.PacketRead.{PacketRead}
-use Rattle.packet.specs.declared.PacketRead.TheVariants.{Accepted, Refused}
 
 -- ---- the window
 
@@ -63,34 +57,34 @@ pub record Together (at : ℕ) (p : Packet) : Type 0 where
 -- ---- the reader's tests, with places in the buffer alone
 
 -- what the body's layout says of contents: the number of its messages (0 for a type that isn't opened), or its first fault
-abbrev pub contents_checked : Contents → Checked
+abbrev pub contents_checked : Contents → Result ℕ Refusal
 contents_checked c = check_body c.fields.kind (message_rule c.fields.flags) c.body
 
 -- and of a packet
-unfoldable pub body_checked : List ℕ → Checked
+unfoldable pub body_checked : List ℕ → Result ℕ Refusal
 body_checked w = contents_checked (contents_in w)
 
 -- 15, at the channel word or the block at fault (or the bytes left over, or where a missing block should begin); else the packet passes
-unfoldable pub pass_body : Checked → List ℕ → ℕ → PacketPass
-pass_body (Counted n) w at = Passed (packet_length w)
-pass_body (Faulty f) w at = Barred (moved (at + body_at (flags_in w)) f)
+unfoldable pub pass_body : Result ℕ Refusal → List ℕ → ℕ → Result ℕ Refusal
+pass_body (Ok n) w at = Ok (packet_length w)
+pass_body (Err f) w at = Err (moved (at + body_at (flags_in w)) f)
 
 -- the packet at the start of a window's bytes w, which stand at `at` in their buffer: the frame's lines from the top, all placed at the packet's
 -- start, then 15
-unfoldable pub pass_bytes : List ℕ → ℕ → PacketPass
-pass_bytes w at = pick (not (eqb (first (frame_lines w)) 0)) (Barred (refused (first (frame_lines w)) at)) (pass_body (body_checked w) w at)
+unfoldable pub pass_bytes : List ℕ → ℕ → Result ℕ Refusal
+pass_bytes w at = pick (not (eqb (first (frame_lines w)) 0)) (Err (refused (first (frame_lines w)) at)) (pass_body (body_checked w) w at)
 
 -- 1, then those
-unfoldable pub pass_window : List ℕ → ℕ → ℕ → ℕ → PacketPass
-pass_window buf start end base = pick (not (inside buf start end base)) (Barred (refused 1 start)) (pass_bytes (window buf start end) start)
+unfoldable pub pass_window : List ℕ → ℕ → ℕ → ℕ → Result ℕ Refusal
+pass_window buf start end base = pick (not (inside buf start end base)) (Err (refused 1 start)) (pass_bytes (window buf start end) start)
 
 -- ---- the answer, with its place in the recording: the packet's own is the base
 
-unfoldable pub read_answer : PacketPass → List ℕ → ℕ → ℕ → PacketRead
-read_answer (Passed n) w start base = Accepted (packet_in w start base)
-read_answer (Barred r) w start base = Refused (recorded base start r)
+unfoldable pub read_answer : Result ℕ Refusal → List ℕ → ℕ → ℕ → Result Packet Refusal
+read_answer (Ok n) w start base = Ok (packet_in w start base)
+read_answer (Err r) w start base = Err (recorded base start r)
 
-unfoldable pub read_packet : List ℕ → ℕ → ℕ → ℕ → PacketRead
+unfoldable pub read_packet : List ℕ → ℕ → ℕ → ℕ → Result Packet Refusal
 read_packet buf start end base = read_answer (pass_window buf start end base) (window buf start end) start base
 
 -- ---- document 01's number and values of an answer
@@ -119,6 +113,6 @@ pub record PacketTold : Type 0 where
   pub packet : Packet
 
 -- a refusal returns its number and place; all other results are zero
-abbrev pub packet_told : PacketRead → PacketTold
-packet_told (Accepted p) = record { refusal = no_refusal; packet = p }
-packet_told (Refused r) = record { refusal = r; packet = no_packet }
+abbrev pub packet_told : Result Packet Refusal → PacketTold
+packet_told (Ok p) = record { refusal = no_refusal; packet = p }
+packet_told (Err r) = record { refusal = r; packet = no_packet }

@@ -1,38 +1,35 @@
 // The writer's tests.
 ghost use Rattle.std.specs.Prelude.{◌≡◌, ◌^◌, ◌<◌, length};
+ghost use Rattle.terms.specs.Numbers.{told};
 ghost use Rattle.frame.specs.Contents.{contents};
 ghost use Rattle.packet.specs.Read.{contents_checked};
 ghost use Rattle.packet.specs.Write.{in_range, writer_refusal, fitted};
 
-use crate::PacketWrite;
-use body::{Checked, check_body};
+use body::check_body;
 use frame::Fields;
 use frame::rules::{length_for, message_rule, secondary_time_ok, value_refusal};
-use terms::{no_room, placed};
+use terms::{Number, Refusal, no_room, placed};
 
-// The first of 17, 5 to 9 and 12 that applies, or 0, for a body of d bytes.
-pub fn writer_refusal(fields: Fields, d: u64) -> u8
+// The first of 17, 5 to 9 and 12 that applies for a body of d bytes.
+pub fn writer_refusal(fields: Fields, d: u64) -> Result<(), Number>
     requires { d < 2 ^ 63 }
-    ensures { result ≡ writer_refusal fields d }
+    ensures { told result ≡ writer_refusal fields d }
 {
     if !in_range(fields) {
-        return 17;
+        return Err(Number::Range);
     }
-    let value = value_refusal(
+    value_refusal(
         fields.channel,
         fields.version,
         fields.flags,
         fields.kind,
         length_for(fields.flags, d),
         d,
-    );
-    if value != 0 {
-        return value;
-    }
+    )?;
     if !secondary_time_ok(fields.flags, fields.time) {
-        return 12;
+        return Err(Number::Secondary);
     }
-    0
+    Ok(())
 }
 
 fn in_range(fields: Fields) -> bool
@@ -42,16 +39,16 @@ fn in_range(fields: Fields) -> bool
 }
 
 // 15, then 16 for a packet of this length in an output of this room, or its length.
-pub fn fit(fields: Fields, body: &[u8], length: usize, room: usize) -> PacketWrite
+pub fn fit(fields: Fields, body: &[u8], length: usize, room: usize) -> Result<usize, Refusal>
     ensures { result ≡ fitted (contents_checked (contents fields body.now)) length room }
 {
     match check_body(body, fields.kind, message_rule(fields.flags)) {
-        Checked::Counted(_) => {
+        Ok(_) => {
             if room < length {
-                return PacketWrite::Unwritten(no_room(0, length));
+                return Err(no_room(0, length));
             }
-            PacketWrite::Written(length)
+            Ok(length)
         }
-        Checked::Faulty(f) => PacketWrite::Unwritten(placed(f, 0)),
+        Err(f) => Err(placed(f, 0)),
     }
 }

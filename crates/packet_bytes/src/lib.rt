@@ -8,10 +8,10 @@ ghost use Rattle.frame.specs.Contents.{contents};
 ghost use Rattle.packet_bytes.specs.Bytes.{head_words, head_bytes, secondary_bytes, data_bytes, packet_bytes};
 
 use frame::Fields;
-use frame::head::{put_sum, put_sync};
+use frame::head::put_sync;
 use frame::rules::{body_at, sum_length};
-use frame::sums::{data_sum, header_sum, secondary_sum};
-use units::{clear_at, copy_at, put16, put32, put48, put64};
+use frame::sums::{HEADER_WORDS, SECONDARY_WORDS, Width, header_sum, put_data_sum};
+use units::{InBytes, clear_at, copy_at, put48};
 
 // Writes a packet of p bytes at the output's first byte.
 pub fn put_packet(out: &mut [u8], fields: Fields, body: &[u8], p: usize)
@@ -29,8 +29,8 @@ fn put_header(out: &mut [u8], fields: Fields, p: u32, d: u32)
     ensures { out.new ≡ splice out.old 0 (head_bytes fields p d) }
 {
     put_words(out, fields, p, d);
-    let sum = header_sum(out);
-    put16(out, 22, sum);
+    let sum = header_sum::<HEADER_WORDS>(out);
+    u16::put(out, 22, sum);
 }
 
 // Writes the eleven words ahead of the header's sum.
@@ -39,9 +39,9 @@ fn put_words(out: &mut [u8], fields: Fields, p: u32, d: u32)
     ensures { out.new ≡ splice out.old 0 (head_words fields p d) }
 {
     put_sync(out);
-    put16(out, 2, fields.channel);
-    put32(out, 4, p);
-    put32(out, 8, d);
+    u16::put(out, 2, fields.channel);
+    u32::put(out, 4, p);
+    u32::put(out, 8, d);
     put_bytes(out, fields);
     put48(out, 16, fields.rtc);
 }
@@ -63,10 +63,10 @@ fn put_secondary(out: &mut [u8], flags: u8, time: u64)
     ensures { out.new ≡ splice out.old 24 (secondary_bytes flags time) }
 {
     if flags / 128 % 2 == 1 {
-        put64(out, 24, time);
-        put16(out, 32, 0);
-        let sum = secondary_sum(&out[24..36]);
-        put16(out, 34, sum);
+        u64::put(out, 24, time);
+        u16::put(out, 32, 0);
+        let sum = header_sum::<SECONDARY_WORDS>(&out[24..36]);
+        u16::put(out, 34, sum);
     }
 }
 
@@ -76,11 +76,11 @@ fn put_data(out: &mut [u8], flags: u8, body: &[u8], p: usize)
     ensures { out.new ≡ splice out.old (body_at flags) (data_bytes flags body.now) }
 {
     let at = body_at(flags) as usize;
-    let sum_at = p - (sum_length(flags) as usize);
+    let sum_at = p - sum_length(flags) as usize;
     put_body_and_filler(out, at, body, sum_at);
-    let code = flags % 4;
-    let sum = data_sum(&out[at..sum_at], code);
-    put_sum(out, sum_at, code, sum);
+    if let Some(width) = Width::of(flags) {
+        put_data_sum(out, at, sum_at, width);
+    }
 }
 
 // Writes the body at `at` and clears what is left up to `end`.

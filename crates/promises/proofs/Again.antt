@@ -1,4 +1,5 @@
 -- An accepted packet is one that the writer accepts, and written again it has the same bytes.
+use Rattle.std.specs.Prelude.{Ok}
 use mathlib.Core.Path.{◌≡◌, refl, sym, ap, subst, ◌∙◌}
 use mathlib.Core.List.{List, [], ◌∷◌, ◌++◌}
 use mathlib.Core.Bool.{Bool, true, false, ◌||◌}
@@ -16,7 +17,6 @@ use Rattle.units.proofs.Numbers.{num_lt, zeros_are}
 use Rattle.units.proofs.Parts.{length_part, bytes_part, part_add, part_part, field_one, bytes_of_field}
 use Rattle.units.proofs.Sums.{sum_over, summed_says}
 use Rattle.units.proofs.Choices.{and_true}
-use Rattle.body.specs.declared.Checked.TheVariants.{Counted}
 use Rattle.frame.specs.Header.{byte, sync, packet_length, data_length, flags_in, kind_in, secondary_bit, secondary_length, sum_code, sum_length, body_at, filler_for, length_for, filler_at, sum_at, filler_length, secondary_in, body_in, filler_in, body_and_filler_in, data_sum_in, time_in, reserved_in, fields_in}
 use Rattle.frame.specs.Rules.{secondary_time_ok}
 use Rattle.frame.specs.inner.Lengths.{Sound}
@@ -25,7 +25,6 @@ use Rattle.frame.specs.Contents.{contents, contents_in, contents_length}
 use Rattle.packet_bytes.specs.Bytes.{head_words, head_bytes, secondary_words, secondary_bytes, body_and_filler_bytes, data_bytes, packet_bytes}
 use Rattle.packet.specs.Read.{window, packet_in, body_checked, read_packet}
 use Rattle.packet.specs.declared.Packet.{Packet}
-use Rattle.packet.specs.declared.PacketRead.TheVariants.{Accepted}
 use Rattle.packet.proofs.Own.{accepted_at}
 use Rattle.promises.specs.Contents.{Typed, Accepts, contents_of}
 use Rattle.promises.proofs.Writer.{Writable, writable_accepts}
@@ -182,7 +181,7 @@ module _ (w : List ℕ) (b : Bytes w) (f : Framed w) where
       }
 
   -- and where its body keeps its rules, the writer has nothing against it
-  pub again_right : (n : ℕ) → body_checked w ≡ Counted n → Writable (contents_in w)
+  pub again_right : (n : ℕ) → body_checked w ≡ Ok n → Writable (contents_in w)
   unfolding fields_in body_checked
   again_right n q =
       record {
@@ -207,7 +206,7 @@ contents_there buf s e base k r =
     ap (contents (fields_in w)) (sym p)
 
 -- the writer accepts what was read, and writes the bytes that were read
-pub read_again : (buf : List ℕ) (s e base : ℕ) (p : Packet) → Bytes buf → read_packet buf s e base ≡ Accepted p
+pub read_again : (buf : List ℕ) (s e base : ℕ) (p : Packet) → Bytes buf → read_packet buf s e base ≡ Ok p
     → Accepts (contents_of buf p) × (packet_bytes (contents_of buf p) ≡ part buf s p.length)
 read_again buf s e base p b h =
     let a = accepted_at buf s e base p h in

@@ -1,4 +1,5 @@
 -- Reading ahead: the sentences of specs/Ahead.antt.
+use Rattle.std.specs.Prelude.{Result, Ok, Err}
 use mathlib.Core.Path.{◌≡◌, refl, sym, ap, subst, ◌∙◌}
 use mathlib.Core.List.{List, [], ◌∷◌, ◌++◌, map}
 use mathlib.Core.Bool.{Bool, true, false}
@@ -18,8 +19,6 @@ use Rattle.frame.specs.Table.{line, first, head_lines, value_lines, values_in, w
 use Rattle.frame.proofs.Frames.{valued_says, lengths_say, limit_cap, head_enough, head_front, values_front, short_2, cut_longer}
 use Rattle.frame.proofs.Tables.{stage_none}
 use Rattle.packet.specs.Read.{inside, window, body_checked, read_packet, packet_told}
-use Rattle.packet.specs.declared.PacketRead.{PacketRead}
-use Rattle.packet.specs.declared.PacketRead.TheVariants.{Accepted, Refused}
 use Rattle.packet.specs.declared.Packet.{Packet}
 use Rattle.packet.proofs.Passes.{Inside, inside_on, window_ends}
 use Rattle.packet.proofs.Window.{read_window}
@@ -121,7 +120,7 @@ module _ (buf : List ℕ) (s e base : ℕ) where
             λ q. let cut = cut_at in_buf q in omega (arith, long, ends, cut.there, cut.capped),
           )
       go false o =
-          let one : (packet_told (read_packet buf s e base)).refusal.number ≡ 1 = ap (λ (x : PacketRead). (packet_told x).refusal.number) (read_outside buf s e base o) in
+          let one : (packet_told (read_packet buf s e base)).refusal.number ≡ 1 = ap (λ (x : Result Packet Refusal). (packet_told x).refusal.number) (read_outside buf s e base o) in
           (λ q. omega (arith, one, q), λ q. omega (arith, one, q))
 
 -- ---- two windows
@@ -153,8 +152,8 @@ module _ (a b : List ℕ) (start end end' base : ℕ) (further : Further a b sta
       → read_packet b start end' base ≡ read_packet a start end base
   read_decided not-2 not-10 =
       read_longer b start end end' base in_both in_second further.longer
-      (λ q. not-2 (ap (λ (x : PacketRead). (packet_told x).refusal.number) read_same ∙ q))
-      (λ q. not-10 (ap (λ (x : PacketRead). (packet_told x).refusal.number) read_same ∙ q))
+      (λ q. not-2 (ap (λ (x : Result Packet Refusal). (packet_told x).refusal.number) read_same ∙ q))
+      (λ q. not-10 (ap (λ (x : Result Packet Refusal). (packet_told x).refusal.number) read_same ∙ q))
       ∙ sym read_same
 
   -- the second's window begins with the first's
@@ -264,12 +263,12 @@ read_elsewhere a b start end start' end' base in_a in_b same =
     let q = answers_elsewhere a b start end start' end' base (within_inside a start end base in_a) (within_inside b start' end' base in_b) same in
     go (read_packet a start end base) (read_packet b start' end' base) q
   where
-    go : (x y : PacketRead) → in_read x ≡ in_read y
+    go : (x y : Result Packet Refusal) → in_read x ≡ in_read y
         → (refused_in (packet_told x).refusal ≡ refused_in (packet_told y).refusal) × (in_recording (packet_told x).packet ≡ in_recording (packet_told y).packet)
-    go (Accepted p) (Accepted q) is = (refl, cc is)
-    go (Refused r) (Refused f) is = (cc is, refl)
-    go (Accepted p) (Refused f) is = let contrary : ◌≡◌ {A = ℕ} 0 1 = cc is in absurd (omega arith)
-    go (Refused r) (Accepted q) is = let contrary : ◌≡◌ {A = ℕ} 0 1 = cc is in absurd (omega arith)
+    go (Ok p) (Ok q) is = (refl, cc is)
+    go (Err r) (Err f) is = (cc is, refl)
+    go (Ok p) (Err f) is = let contrary : ◌≡◌ {A = ℕ} 0 1 = cc is in absurd (omega arith)
+    go (Err r) (Ok q) is = let contrary : ◌≡◌ {A = ℕ} 0 1 = cc is in absurd (omega arith)
 
 -- a window of the longest packet's length
 pub moves_on : (whole : List ℕ) (start end base : ℕ) (x : Piece whole start end base) → x.from + 134217728 ≤ x.to → Last x ⊎ (1 ≤ (answer x).accepted)

@@ -1,4 +1,5 @@
 -- The reader's tests of an opened body say what document 01 says of it, and a body is at fault where document 01 says.
+use Rattle.std.specs.Prelude.{Some, Result, Ok, Err}
 use mathlib.Core.Path.{◌≡◌, refl, sym, ap, ◌∙◌, subst}
 use mathlib.Core.List.{List}
 use mathlib.Core.Bool.{Bool, true, false, false≢true}
@@ -17,10 +18,8 @@ use Rattle.body.specs.Blocks.{Entry, Fits, entries_in, BodyOf}
 use Rattle.body.specs.Layout.{OpenedType, Asked, exactly, to_the_end, ChannelWord, many, single, segment, timed, untimed}
 use Rattle.body.specs.declared.Form.{Form}
 use Rattle.body.specs.declared.Form.TheVariants.{Stamped, Plain}
-use Rattle.body.specs.declared.Checked.{Checked}
-use Rattle.body.specs.declared.Checked.TheVariants.{Counted, Faulty}
 use Rattle.body.proofs.ChannelWords as Words
-use Rattle.body.proofs.ChannelWords.{counted_by, count_by, shape_of, word_says, word_made}
+use Rattle.body.proofs.ChannelWords.{count_by, shape_of, word_says, word_made}
 use Rattle.body.proofs.Exactly.{body_of_blocks, body_is_blocks}
 use Rattle.promises.specs.Faults.{AtFault}
 use Rattle.promises.proofs.Faults.{RightBy, TimeBy, plain_other, fit_each, each_fit, fault_at, at_fault, fault_once, each_other, fault_other}
@@ -140,13 +139,13 @@ word_made_of kind word n form (inr k) w = go (dec_le (2 ^ 31) word)
     go (no h) = let low : word < 2 ^ 31 = omega arith in subst (WordMade kind word n) (sym ((w.uart k).2 low)) (to_the_end, untimed k (w.uart k).0 low, w.some)
 
 -- as many as the shape counts
-many_says : (asked : Asked) (n : ℕ) → (counted_by asked ≡ true → n ≡ count_by asked) → 0 < n → AsMany asked n
-many_says (exactly count) n counted some = counted refl
+many_says : (asked : Asked) (n : ℕ) → ((count : ℕ) → count_by asked ≡ Some count → n ≡ count) → 0 < n → AsMany asked n
+many_says (exactly count) n counted some = counted count refl
 many_says to_the_end n counted some = some
 
-many_made : (asked : Asked) (n : ℕ) → AsMany asked n → counted_by asked ≡ true → n ≡ count_by asked
-many_made (exactly count) n h c = h
-many_made to_the_end n h c = absurd (false≢true c)
+many_made : (asked : Asked) (n : ℕ) → AsMany asked n → (count : ℕ) → count_by asked ≡ Some count → n ≡ count
+many_made (exactly m) n h count c = let same : m ≡ count = cc in omega (arith, same, h)
+many_made to_the_end n h count c = let z : ◌≡◌ {A = ℕ} 0 1 = cc in absurd (omega arith)
 
 -- ---- the body
 
@@ -192,24 +191,24 @@ kept_form kind flags bs es o b = refl
 -- ---- 15, of a body's check
 
 -- whether a body passes
-abbrev pub body_passes : Checked → Bool
-body_passes (Counted n) = true
-body_passes (Faulty f) = false
+abbrev pub body_passes : Result ℕ Refusal → Bool
+body_passes (Ok n) = true
+body_passes (Err f) = false
 
-passes_says : (c : Checked) → body_passes c ≡ true → (n : ℕ) × (c ≡ Counted n)
-passes_says (Counted n) t = (n, refl)
-passes_says (Faulty f) t = absurd (false≢true t)
+passes_says : (c : Result ℕ Refusal) → body_passes c ≡ true → (n : ℕ) × (c ≡ Ok n)
+passes_says (Ok n) t = (n, refl)
+passes_says (Err f) t = absurd (false≢true t)
 
 -- a body of a type that isn't opened passes, with no message
-pub carried_counted : (kind : ℕ) (rule : TimeRule) (bs : List ℕ) → opens kind ≡ false → check_body kind rule bs ≡ Counted 0
+pub carried_counted : (kind : ℕ) (rule : TimeRule) (bs : List ℕ) → opens kind ≡ false → check_body kind rule bs ≡ Ok 0
 unfolding check_body open_body
 carried_counted kind rule bs o = rw o
 
 module _ (kind flags : ℕ) (bs : List ℕ) where
-  kept_counted : MessagesKept kind flags bs → (n : ℕ) × (check_body kind (message_rule flags) bs ≡ Counted n)
+  kept_counted : MessagesKept kind flags bs → (n : ℕ) × (check_body kind (message_rule flags) bs ≡ Ok n)
   kept_counted kept = go (opens kind) refl
     where
-      go : (o : Bool) → opens kind ≡ o → (n : ℕ) × (check_body kind (message_rule flags) bs ≡ Counted n)
+      go : (o : Bool) → opens kind ≡ o → (n : ℕ) × (check_body kind (message_rule flags) bs ≡ Ok n)
       go true o =
           let opened = (opens_exactly kind).0 o in
           let (es, k) = kept opened in
@@ -243,16 +242,16 @@ module _ (kind flags : ℕ) (bs : List ℕ) where
   fault_made = fault_other (BlockKept flags) (RightBy (message_rule flags)) (block_made flags) _ _ (λ t. ((message_time_exactly flags t).1, (message_time_exactly flags t).0)) kind bs
 
   -- a body that is refused is at fault as the refusal says
-  pub fault_kept : (r : Refusal) → Bytes bs → check_body kind (message_rule flags) bs ≡ Faulty r → BodyAtFault kind flags bs r.place r.reason
+  pub fault_kept : (r : Refusal) → Bytes bs → check_body kind (message_rule flags) bs ≡ Err r → BodyAtFault kind flags bs r.place r.reason
   fault_kept r raw e = fault_says r.place r.reason (fault_at kind (message_rule flags) bs r raw e)
 
   -- exactly where it breaks the layout
   pub fault_kept_exactly : Bytes bs → (¬ MessagesKept kind flags bs) ↔ ((at reason : ℕ) × BodyAtFault kind flags bs at reason)
   fault_kept_exactly raw = (go (check_body kind (message_rule flags) bs) refl, back)
     where
-      go : (x : Checked) → check_body kind (message_rule flags) bs ≡ x → ¬ MessagesKept kind flags bs → (at reason : ℕ) × BodyAtFault kind flags bs at reason
-      go (Counted n) e broken = absurd (broken (messages_say raw (rw e refl)))
-      go (Faulty r) e broken = (r.place, r.reason, fault_kept r raw e)
+      go : (x : Result ℕ Refusal) → check_body kind (message_rule flags) bs ≡ x → ¬ MessagesKept kind flags bs → (at reason : ℕ) × BodyAtFault kind flags bs at reason
+      go (Ok n) e broken = absurd (broken (messages_say raw (rw e refl)))
+      go (Err r) e broken = (r.place, r.reason, fault_kept r raw e)
 
       back : (at reason : ℕ) × BodyAtFault kind flags bs at reason → ¬ MessagesKept kind flags bs
       back (at, reason, there) kept =

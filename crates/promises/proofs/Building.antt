@@ -1,4 +1,5 @@
 -- The builder's steps answer as document 01 says, and leave in their buffer what it says: each of the builder's tests says what its words say.
+use Rattle.std.specs.Prelude.{Result, Ok}
 use mathlib.Core.Path.{◌≡◌, refl, sym, ap, ◌∙◌}
 use mathlib.Core.List.{List, [], ◌∷◌, ◌++◌, append_assoc}
 use mathlib.Core.Bool.{Bool, true, false, ◌&&◌, ◌||◌}
@@ -20,13 +21,12 @@ use Rattle.body.proofs.Blocks.{length_block_bytes}
 use Rattle.body.specs.declared.Form.TheVariants.{Stamped, Plain}
 use Rattle.builder.specs.Build.{stamped, form_of, counts, makes, bad_draft, open_step, open_word, bad_block, bad_time, stray_time, grown, draft_added, add_step, entry_of, close_step, counter_bytes, buf_after, step_told}
 use Rattle.builder.specs.declared.Draft.{Draft}
-use Rattle.builder.specs.declared.Step.{Step}
-use Rattle.builder.specs.declared.Step.TheVariants.{Done}
 use Rattle.builder.proofs.Drafts.{draft_facts, draft_good, block_facts}
 use Rattle.promises.specs.Calls.{Open, Add, Close}
 use Rattle.promises.specs.Words.{pad}
 use Rattle.promises.specs.Building.{Opens, SoundDraft, Takes, InForm, grown_to, Fitting, block_of, Building}
 use Rattle.promises.proofs.NumbersKept.{counter_exactly, time_exactly}
+use Rattle.terms.specs.declared.Refusal.{Refusal}
 
 -- ---- a test by what it says: from the test to document 01's words (says), and back (made)
 
@@ -121,12 +121,12 @@ grown_is d n = ap (λ (stamp : ℕ). d.used + (stamp + 4 + n + n % 2)) (go (stam
 -- ---- the steps
 
 -- where no refusal applies
-opens_done : (d : Draft) (kind rule len : ℕ) → Opens kind rule → 4 ≤ len → open_step d kind rule len ≡ Done (record { used = 4; blocks = 0; kind = kind; rule = rule })
+opens_done : (d : Draft) (kind rule len : ℕ) → Opens kind rule → 4 ≤ len → open_step d kind rule len ≡ Ok (record { used = 4; blocks = 0; kind = kind; rule = rule })
 unfolding open_step
 opens_done d kind rule len o room = rw (makes_made kind rule o, le-ltb len 4 room)
 
 adds_done : (d : Draft) (len time n : ℕ) → Fitting d len time n
-    → add_step d len time n ≡ Done (record { used = grown_to d n; blocks = (d.blocks + 1) % 2 ^ 64; kind = d.kind; rule = d.rule })
+    → add_step d len time n ≡ Ok (record { used = grown_to d n; blocks = (d.blocks + 1) % 2 ^ 64; kind = d.kind; rule = d.rule })
 unfolding add_step draft_added
 adds_done d len time n f =
     rw (
@@ -138,18 +138,18 @@ adds_done d len time n f =
       le-ltb len (grown_to d n) f.room,
     )
 
-closes_done : (d : Draft) (len : ℕ) → SoundDraft d len → d.used ≢ 4 → close_step d len ≡ Done d
+closes_done : (d : Draft) (len : ℕ) → SoundDraft d len → d.used ≢ 4 → close_step d len ≡ Ok d
 unfolding close_step
 closes_done d len s other = rw (draft_made d len s, ne_eqb d.used 4 other)
 
 -- ---- and their bytes
 
 -- a buffer after a step that is done
-put : (x r : Step) (d : Draft) (old : List ℕ) (at : ℕ) (vs new : List ℕ) → r ≡ x → x ≡ Done d → new ≡ buf_after r old at vs → new ≡ splice old at vs
+put : (x r : Result Draft (Refusal × Draft)) (d : Draft) (old : List ℕ) (at : ℕ) (vs new : List ℕ) → r ≡ x → x ≡ Ok d → new ≡ buf_after r old at vs → new ≡ splice old at vs
 unfolding buf_after
-put x r d old at vs new is done after = after ∙ ap (λ (y : Step). buf_after y old at vs) (is ∙ done)
+put x r d old at vs new is done after = after ∙ ap (λ (y : Result Draft (Refusal × Draft)). buf_after y old at vs) (is ∙ done)
 
-open_bytes : (d : Draft) (buf₀ : List ℕ) (kind rule : ℕ) (r : Step) (buf₁ : List ℕ) → Open d buf₀ kind rule r buf₁ → Opens kind rule → 4 ≤ length buf₀
+open_bytes : (d : Draft) (buf₀ : List ℕ) (kind rule : ℕ) (r : Result Draft (Refusal × Draft)) (buf₁ : List ℕ) → Open d buf₀ kind rule r buf₁ → Opens kind rule → 4 ≤ length buf₀
     → ((kind ≡ 0x50) × (1 ≤ rule) → buf₁ ≡ 0x00 ∷ 0x00 ∷ 0x00 ∷ 0x80 ∷ drop 4 buf₀)
     × ((kind ≡ 0x30) ⊎ (rule ≡ 0) → buf₁ ≡ 0x00 ∷ 0x00 ∷ 0x00 ∷ 0x00 ∷ drop 4 buf₀)
 unfolding bytes_of
@@ -193,7 +193,7 @@ block_is d time upper bytes short =
     go true = simp append_assoc
     go false = simp append_assoc
 
-add_bytes : (d : Draft) (buf₀ : List ℕ) (time upper : ℕ) (bytes : List ℕ) (r : Step) (buf₁ : List ℕ) → Add d buf₀ time upper bytes r buf₁
+add_bytes : (d : Draft) (buf₀ : List ℕ) (time upper : ℕ) (bytes : List ℕ) (r : Result Draft (Refusal × Draft)) (buf₁ : List ℕ) → Add d buf₀ time upper bytes r buf₁
     → Fitting d (length buf₀) time (length bytes)
     → buf₁ ≡ take d.used buf₀ ++ (block_of d time upper bytes ++ drop (grown_to d (length bytes)) buf₀)
 unfolding grown
@@ -206,7 +206,7 @@ add_bytes d buf₀ time upper bytes r buf₁ (is, after) f =
     ∙ ap (λ (n : ℕ). take d.used buf₀ ++ (b ++ drop n buf₀)) long
     ∙ ap (λ (x : List ℕ). take d.used buf₀ ++ (x ++ drop (grown_to d (length bytes)) buf₀)) (block_is d time upper bytes f.takes.most)
 
-close_bytes : (d : Draft) (buf₀ : List ℕ) (r : Step) (buf₁ : List ℕ) → Close d buf₀ r buf₁ → SoundDraft d (length buf₀) → d.used ≢ 4
+close_bytes : (d : Draft) (buf₀ : List ℕ) (r : Result Draft (Refusal × Draft)) (buf₁ : List ℕ) → Close d buf₀ r buf₁ → SoundDraft d (length buf₀) → d.used ≢ 4
     → (d.kind ≡ 0x30 → buf₁ ≡ d.blocks % 256 ∷ d.blocks / 256 ∷ drop 2 buf₀)
     × (d.kind ≡ 0x50 → buf₁ ≡ buf₀)
 unfolding bytes_of

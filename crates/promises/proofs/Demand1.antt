@@ -1,4 +1,5 @@
 -- Demand 1 holds.
+use Rattle.std.specs.Prelude.{Result, Ok, Err}
 use mathlib.Core.Path.{◌≡◌, refl, sym, ap, ◌∙◌}
 use mathlib.Core.List.{List}
 use mathlib.Core.Logic.{inl, inr, ⊎_elim, ◌≢◌}
@@ -8,17 +9,11 @@ use lib.ListN.{length}
 use Rattle.units.specs.Units.{part}
 use Rattle.terms.specs.declared.Refusal.{Refusal}
 use Rattle.builder.specs.Build.{buf_after, step_told}
-use Rattle.builder.specs.declared.Step.{Step}
-use Rattle.builder.specs.declared.Step.TheVariants.{Done, Denied}
 use Rattle.packet.specs.Read.{window, read_packet, packet_told}
 use Rattle.terms.specs.Refusals.{no_refusal}
 use Rattle.packet.specs.Messages.{list_packet, list_after, starts, lengths, list_told, message_told}
 use Rattle.packet.specs.Write.{out_after, write_told}
 use Rattle.packet.specs.declared.Packet.{Packet}
-use Rattle.packet.specs.declared.PacketList.{PacketList}
-use Rattle.packet.specs.declared.PacketList.TheVariants.{Listed, Unlisted}
-use Rattle.packet.specs.declared.PacketWrite.{PacketWrite}
-use Rattle.packet.specs.declared.PacketWrite.TheVariants.{Written, Unwritten}
 use Rattle.packet.proofs.Window.{entries_kept, count_fits, length_after, read_window, list_window, message_window, entries_window}
 use Rattle.packet.proofs.Own.{own_read, own_list, own_message, own_entries}
 use Rattle.recording.specs.Reading.{Reading, reading, read_recording}
@@ -32,6 +27,7 @@ use Rattle.promises.specs.Demand1.{Alike, ListKept, Demand1}
 use Rattle.promises.proofs.BodiesKept.{fault_kept_exactly, fault_kept_once}
 use Rattle.promises.proofs.Refusing.{read_numbered, start_recorded}
 use Rattle.promises.proofs.Ends.{accepted_is, read_ends, read_placed, list_ends, message_ends}
+use Rattle.builder.specs.declared.Draft.{Draft}
 
 -- ---- the window
 
@@ -97,20 +93,20 @@ both_kept buf start end base starts₀ lengths₀ =
       record { past = entries_kept r (lengths w) lengths₀; long = length_after r (lengths w) lengths₀ (omega (arith, fits)) },
     )
 
-lists_same : (r : PacketList) → (list_told r).refusal.number ≢ 0 → (values : ℕ → ℕ) (old : List ℕ) → list_after r values old ≡ old
+lists_same : (r : Result ℕ Refusal) → (list_told r).refusal.number ≢ 0 → (values : ℕ → ℕ) (old : List ℕ) → list_after r values old ≡ old
 unfolding list_after
-lists_same (Listed n) h values old = absurd (h refl)
-lists_same (Unlisted r) h values old = refl
+lists_same (Ok n) h values old = absurd (h refl)
+lists_same (Err r) h values old = refl
 
-output_same : (r : PacketWrite) → (write_told r).refusal.number ≢ 0 → (old bytes : List ℕ) → out_after r old bytes ≡ old
+output_same : (r : Result ℕ Refusal) → (write_told r).refusal.number ≢ 0 → (old bytes : List ℕ) → out_after r old bytes ≡ old
 unfolding out_after
-output_same (Written n) h old bytes = absurd (h refl)
-output_same (Unwritten r) h old bytes = refl
+output_same (Ok n) h old bytes = absurd (h refl)
+output_same (Err r) h old bytes = refl
 
-buffer_same : (r : Step) → (step_told r).refusal.number ≢ 0 → (old : List ℕ) (at : ℕ) (bytes : List ℕ) → buf_after r old at bytes ≡ old
+buffer_same : (r : Result Draft (Refusal × Draft)) → (step_told r).refusal.number ≢ 0 → (old : List ℕ) (at : ℕ) (bytes : List ℕ) → buf_after r old at bytes ≡ old
 unfolding buf_after
-buffer_same (Done d) h old at bytes = absurd (h refl)
-buffer_same (Denied r d) h old at bytes = refl
+buffer_same (Ok d) h old at bytes = absurd (h refl)
+buffer_same (Err (r, d)) h old at bytes = refl
 
 pub demand_1 : Demand1
 demand_1 =

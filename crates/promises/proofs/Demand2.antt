@@ -1,4 +1,5 @@
 -- Demand 2 holds.
+use Rattle.std.specs.Prelude.{Result, Ok}
 use mathlib.Core.Path.{◌≡◌, refl, sym, ap, subst, ◌∙◌}
 use mathlib.Core.List.{List, ◌++◌}
 use Prim.Native.Nat.{ℕ, ◌+◌, ◌≤◌}
@@ -16,8 +17,6 @@ use Rattle.frame.specs.Contents.{Contents, contents_length}
 use Rattle.packet_bytes.specs.Bytes.{packet_bytes}
 use Rattle.packet.specs.Write.{write_packet, out_after, WriteTold, write_told}
 use Rattle.packet.specs.declared.Packet.{Packet}
-use Rattle.packet.specs.declared.PacketWrite.{PacketWrite}
-use Rattle.packet.specs.declared.PacketWrite.TheVariants.{Written}
 use Rattle.packet.proofs.Own.{accepted_at, accepted_fits, together}
 use Rattle.promises.specs.Contents.{Typed, output_of, contents_of}
 use Rattle.promises.specs.Endings.{read_told, written_told}
@@ -32,6 +31,7 @@ use Rattle.promises.proofs.Again.{read_again}
 use Rattle.promises.proofs.BodiesKept.{opens_exactly, carries, body_kept, kept_form, blocks_once}
 use Rattle.promises.proofs.Keeping.{accepted_exactly}
 use Rattle.promises.proofs.Reported.{messages_there, carried_none}
+use Rattle.terms.specs.declared.Refusal.{Refusal}
 
 -- ---- what is reported
 
@@ -86,7 +86,7 @@ packet_there_is w at base =
 -- ---- what is written
 
 -- the output after a packet is written begins with its bytes
-output_begins : (c : Contents) (out : List ℕ) → take (contents_length c) (out_after (Written (contents_length c)) out (packet_bytes c)) ≡ packet_bytes c
+output_begins : (c : Contents) (out : List ℕ) → take (contents_length c) (out_after (Ok (contents_length c)) out (packet_bytes c)) ≡ packet_bytes c
 unfolding out_after
 output_begins c out = take_at (packet_bytes c) _ (contents_length c) (length_of_lem c)
 
@@ -95,7 +95,7 @@ writes : (c : Contents) (out : List ℕ) → Writable c → contents_length c �
     → (write_told (write_packet c (length out)) ≡ written_told no_refusal (contents_length c)) × (take (contents_length c) (output_of c out) ≡ packet_bytes c)
 writes c out r room =
     let w = writable_written c (length out) r room in
-    (ap write_told w, ap (λ (x : PacketWrite). take (contents_length c) (out_after x out (packet_bytes c))) w ∙ output_begins c out)
+    (ap write_told w, ap (λ (x : Result ℕ Refusal). take (contents_length c) (out_after x out (packet_bytes c))) w ∙ output_begins c out)
 
 reads_back : (c : Contents) → Typed c → (out : List ℕ) (n : ℕ) → write_told (write_packet c (length out)) ≡ written_told no_refusal n
     → (buf : List ℕ) (start end base : ℕ) → Within buf start end base → start + n ≤ end → part buf start n ≡ take n (output_of c out)

@@ -1,4 +1,5 @@
 -- What document 01 promises beside the demands holds.
+use Rattle.std.specs.Prelude.{Result, Ok, Err}
 use mathlib.Core.Path.{◌≡◌, refl, sym, ap, ◌∙◌}
 use mathlib.Core.List.{List, ◌++◌}
 use mathlib.Core.Bool.{true, false≢true}
@@ -22,10 +23,6 @@ use Rattle.packet_bytes.specs.Bytes.{packet_bytes}
 use Rattle.packet.specs.Read.{window, pass_window, read_answer, read_packet, packet_told}
 use Rattle.packet.specs.Messages.{message_count, kth_message, list_answer, recorded_list, list_packet, message_answer, recorded_message, message_packet, list_told, message_told}
 use Rattle.packet.specs.Write.{out_after}
-use Rattle.packet.specs.declared.PacketPass.{PacketPass}
-use Rattle.packet.specs.declared.PacketPass.TheVariants.{Passed, Barred}
-use Rattle.packet.specs.declared.PacketWrite.{PacketWrite}
-use Rattle.packet.specs.declared.PacketWrite.TheVariants.{Written}
 use Rattle.recording.specs.Reading.{reading}
 use Rattle.promises.proofs.HandedOut.{hands_out, hands_out_once}
 use Rattle.promises.specs.Contents.{Accepts, output_of}
@@ -38,6 +35,7 @@ use Rattle.promises.proofs.Keeping.{refused_exactly}
 use Rattle.promises.proofs.WriterKeeping.{write_accepts, write_first, write_ends, write_placed, write_room, write_no_room, write_length, length_once}
 use Rattle.promises.proofs.Building.{building}
 use Rattle.promises.proofs.Writer.{writable_written, accepts_writable, length_of_lem}
+use Rattle.terms.specs.declared.Refusal.{Refusal}
 
 -- ---- the lister and one message, after the reader's tests
 
@@ -49,11 +47,11 @@ list_as_read buf start end base len₁ len₂ = go (pass_window buf start end ba
     w : List ℕ
     w = window buf start end
 
-    go : (x : PacketPass) → (packet_told (read_answer x w start base)).refusal.number ≢ 0
+    go : (x : Result ℕ Refusal) → (packet_told (read_answer x w start base)).refusal.number ≢ 0
         → list_told (recorded_list base start (list_answer x start (message_count w) (min len₁ len₂)))
         ≡ listed_told (packet_told (read_answer x w start base)).refusal 0
-    go (Passed p) h = absurd (h refl)
-    go (Barred r) h = refl
+    go (Ok p) h = absurd (h refl)
+    go (Err r) h = refl
 
 message_as_read : (buf : List ℕ) (start end base number : ℕ) → (packet_told (read_packet buf start end base)).refusal.number ≢ 0
     → message_told (message_packet buf start end base number) ≡ given_told (packet_told (read_packet buf start end base)).refusal zero_message
@@ -63,11 +61,11 @@ message_as_read buf start end base number = go (pass_window buf start end base)
     w : List ℕ
     w = window buf start end
 
-    go : (x : PacketPass) → (packet_told (read_answer x w start base)).refusal.number ≢ 0
+    go : (x : Result ℕ Refusal) → (packet_told (read_answer x w start base)).refusal.number ≢ 0
         → message_told (recorded_message base start (message_answer x start (message_count w) number (kth_message w number)))
         ≡ given_told (packet_told (read_answer x w start base)).refusal zero_message
-    go (Passed p) h = absurd (h refl)
-    go (Barred r) h = refl
+    go (Ok p) h = absurd (h refl)
+    go (Err r) h = refl
 
 -- ---- the builder
 
@@ -95,7 +93,7 @@ reads_back buf d es flags b closes f =
 
 -- ---- the writer
 
-output_is : (c : Contents) (out : List ℕ) → out_after (Written (contents_length c)) out (packet_bytes c) ≡ packet_bytes c ++ drop (length (packet_bytes c)) out
+output_is : (c : Contents) (out : List ℕ) → out_after (Ok (contents_length c)) out (packet_bytes c) ≡ packet_bytes c ++ drop (length (packet_bytes c)) out
 unfolding out_after
 output_is c out = ap (λ (k : ℕ). packet_bytes c ++ drop k out) (zero-add (length (packet_bytes c)))
 
@@ -103,7 +101,7 @@ written_there : (c : Contents) → Accepts c → (out : List ℕ) → length (pa
     → output_of c out ≡ packet_bytes c ++ drop (length (packet_bytes c)) out
 written_there c a out room =
     let w = writable_written c (length out) (accepts_writable c a) (omega (arith, length_of_lem c)) in
-    ap (λ (x : PacketWrite). out_after x out (packet_bytes c)) w ∙ output_is c out
+    ap (λ (x : Result ℕ Refusal). out_after x out (packet_bytes c)) w ∙ output_is c out
 
 pub document_01 : Document01
 document_01 =

@@ -1,4 +1,5 @@
 -- A body is refused exactly where it is at fault and for the rule that it breaks there, and it is at fault at one place, for one reason.
+use Rattle.std.specs.Prelude.{Some, Result, Ok, Err}
 use mathlib.Core.Path.{◌≡◌, refl, sym, ap, ◌∙◌, subst}
 use mathlib.Core.List.{List, [], ◌∷◌, ◌++◌, append_assoc}
 use mathlib.Core.Bool.{Bool, true, false, ◌&&◌, and-false, false≢true}
@@ -15,7 +16,7 @@ use Rattle.units.specs.Units.{Bytes, part, zeros, num, field}
 use Rattle.units.proofs.Choices.{and_true}
 use Rattle.terms.specs.Times.{time_ok}
 use Rattle.terms.proofs.Times.{zero_ok}
-use Rattle.body.specs.Walk.{opens, open_body, stamp_length, length_by, head_at, block_end, block_at, stop_at, walk_from, walk}
+use Rattle.body.specs.Walk.{opens, open_body, stamp_length, length_by, head_at, block_end, block_at, stop_at, walk_from, walk, Opened, Carried, Shaped, Wrong}
 use Rattle.terms.specs.Refusals.{fault}
 use Rattle.body.specs.Answers.{check_opened, check_body, tab}
 use Rattle.body.specs.Blocks.{Entry, block_bytes, Fits, AllFit, blocks_bytes, message_on}
@@ -27,18 +28,13 @@ use Rattle.body.specs.declared.Form.{Form}
 use Rattle.body.specs.declared.Form.TheVariants.{Stamped, Plain}
 use Rattle.body.specs.declared.Shape.{Shape}
 use Rattle.body.specs.declared.Message.{Message}
-use Rattle.body.specs.declared.Opened.{Opened}
-use Rattle.body.specs.declared.Opened.TheVariants.{Carried, Shaped, Wrong}
-use Rattle.body.specs.declared.Block.{Block}
-use Rattle.body.specs.declared.Block.TheVariants.{Found, Broken}
-use Rattle.body.specs.declared.Checked.TheVariants.{Faulty}
 use Rattle.body.proofs.Walking.{found_stands, stands_found, found_next, Walking, walking_first, walking_next, walk_stop, walk_broken, walk_found, Counting, counting_first, counting_stop, counting_broken, counting_next, ending_over}
 use Rattle.body.proofs.Reading.{length_tab}
 use Rattle.body.proofs.Whole.{entry_on, stands_there, on_before, Come, come_first, come_next, open_not_carried}
 use Rattle.body.proofs.Exactly.{check_shaped}
 use Rattle.body.proofs.Bounds.{FaultFor, EachReason, broken_for, ending_faulty}
 use Rattle.body.proofs.Steps.{none_there}
-use Rattle.body.proofs.ChannelWords.{opens_exactly, counted_by, count_by, shape_of, word_says, word_made}
+use Rattle.body.proofs.ChannelWords.{opens_exactly, count_by, shape_of, word_says, word_made}
 
 -- a block keeps the rules under a time rule, and a time is in form under it
 abbrev pub RightBy : TimeRule → Form → Entry → Type 0
@@ -205,7 +201,7 @@ module _ (sh : Shape) (bs : List ℕ) (at : ℕ) (within : at ≤ length bs) whe
       }
 
   -- a block that the walk finds breaks none
-  found_none : (m : Message) (next : ℕ) → block_at sh bs at ≡ Found m next → (reason : ℕ) → ¬ Breaks InTime sh.form rest reason
+  found_none : (m : Message) (next : ℕ) → block_at sh bs at ≡ Ok (m, next) → (reason : ℕ) → ¬ Breaks InTime sh.form rest reason
   found_none m next found reason =
       let form = sh.form in
       let s = found_stands sh bs at m next found in
@@ -239,15 +235,15 @@ module _ (form : Form) (rule : TimeRule) (len k at : ℕ) (rest : List ℕ) (l :
   due_going to_the_end (inr h) = rw (lt-leb len at (omega (arith, l))) (and-false (ltb 0 k))
 
   -- where it stops before the end, as many blocks as counted are behind it
-  stopped_over : (asked : Asked) → stop_at (shape_of form asked rule) len k at ≡ true → 1 ≤ length rest → (asked ≡ exactly (count_by asked)) × (count_by asked ≤ k)
+  stopped_over : (asked : Asked) → stop_at (shape_of form asked rule) len k at ≡ true → 1 ≤ length rest → (count : ℕ) × (asked ≡ exactly count) × (count ≤ k)
   unfolding stop_at
-  stopped_over (exactly count) s more = (refl, leb-true count k s)
+  stopped_over (exactly count) s more = (count, refl, leb-true count k s)
   stopped_over to_the_end s more = absurd (omega (arith, l, leb-true len at (and_true (ltb 0 k) (leb len at) s).1))
 
 -- where one more is due, no more than counted are there
-due_within : (asked : Asked) (k : ℕ) (rest : List ℕ) → Due asked k rest → counted_by asked ≡ true → k ≤ count_by asked
-due_within (exactly count) k rest due c = omega arith
-due_within to_the_end k rest due c = absurd (false≢true c)
+due_within : (asked : Asked) (k : ℕ) (rest : List ℕ) → Due asked k rest → (count : ℕ) → count_by asked ≡ Some count → k ≤ count
+due_within (exactly m) k rest due count c = let same : m ≡ count = cc in omega arith
+due_within to_the_end k rest due count c = let z : ◌≡◌ {A = ℕ} 0 1 = cc in absurd (omega arith)
 
 -- ---- from the refusal to the place
 
@@ -292,7 +288,7 @@ module _ (kind : ℕ) (rule : TimeRule) (bs : List ℕ) (form : Form) (asked : A
         let q : r.reason ≡ reason = ap (λ (x : Refusal). x.reason) is in
         rw (p, q) fault-there
 
-    broken_fault : stop_at sh (length bs) k at ≡ false → block_at sh bs at ≡ Broken r → FaultOf kind rule bs r
+    broken_fault : stop_at sh (length bs) k at ≡ false → block_at sh bs at ≡ Err r → FaultOf kind rule bs r
     broken_fault s b = go f.1
       where
         f : FaultFor (DueWrong (TimeBy rule) form (drop at bs)) at r
@@ -315,26 +311,25 @@ module _ (kind : ℕ) (rule : TimeRule) (bs : List ℕ) (form : Form) (asked : A
     over_fault s is short =
         let more : 1 ≤ length (drop at bs) = omega (arith, behind) in
         let all = stopped_over form rule (length bs) k at (drop at bs) behind asked s more in
-        let counted : counted_by asked ≡ true = ap counted_by all.0 in
-        let n : length before ≡ count_by asked = omega (arith, length_tab k (entry_on sh bs), all.1, come.within counted) in
-        let begins = subst (λ (a : Asked). Begins kind (RightBy rule) bs form a before (drop at bs)) all.0 (come_begins k at w.2 come).0 in
+        let n : length before ≡ all.0 = omega (arith, length_tab k (entry_on sh bs), all.2, come.within all.0 (ap count_by all.1)) in
+        let begins = subst (λ (a : Asked). Begins kind (RightBy rule) bs form a before (drop at bs)) all.1 (come_begins k at w.2 come).0 in
         there 6 is (over begins n more)
 
-  fault_from : (f k at : ℕ) → length bs < f + k → Walking sh bs k at → Come sh bs k at → walk_from sh bs f k ≡ Faulty r → FaultOf kind rule bs r
+  fault_from : (f k at : ℕ) → length bs < f + k → Walking sh bs k at → Come sh bs k at → walk_from sh bs f k ≡ Err r → FaultOf kind rule bs r
   fault_from zero k at enough w come e = absurd (omega arith)
   fault_from (suc f) k at enough w come e =
       go (stop_at sh (length bs) k at) refl (block_at sh bs at) refl (λ next. fault_from f (k + 1) next (omega arith))
     where
-      go : (b : Bool) → stop_at sh (length bs) k at ≡ b → (x : Block) → block_at sh bs at ≡ x
-          → ((next : ℕ) → Walking sh bs (k + 1) next → Come sh bs (k + 1) next → walk_from sh bs f (k + 1) ≡ Faulty r → FaultOf kind rule bs r)
+      go : (b : Bool) → stop_at sh (length bs) k at ≡ b → (x : Result (Message × ℕ) Refusal) → block_at sh bs at ≡ x
+          → ((next : ℕ) → Walking sh bs (k + 1) next → Come sh bs (k + 1) next → walk_from sh bs f (k + 1) ≡ Err r → FaultOf kind rule bs r)
           → FaultOf kind rule bs r
       go true s x b rest =
           let p = ending_faulty (length bs) k at r (sym (walk_stop sh bs (suc f) k at w.0 (omega arith) s) ∙ e) in
           over_fault k at w come s p.0 p.1
-      go false s (Broken x) b rest =
+      go false s (Err x) b rest =
           let same : x ≡ r = cc (sym (walk_broken sh bs (suc f) k at w.0 (omega arith) x s b) ∙ e) in
-          broken_fault k at w come s (b ∙ ap Broken same)
-      go false s (Found m next) b rest =
+          broken_fault k at w come s (b ∙ ap Err same)
+      go false s (Ok (m, next)) b rest =
           let pf : suc f - 1 ≡ f = omega arith in
           rest next (walking_next sh bs k at m next w b) (come_next sh bs k at m next raw w s b come)
           (rw pf at (sym (walk_found sh bs (suc f) k at w.0 (omega arith) m next s b) ∙ e))
@@ -359,17 +354,17 @@ word_fault kind rule bs e = go (dec_le 4 (length bs))
     go (no h) = no_word (wrong_opened kind rule bs e) (omega arith)
 
 -- a body that is refused is at fault at the place given, for the reason given
-pub fault_at : (kind : ℕ) (rule : TimeRule) (bs : List ℕ) (r : Refusal) → Bytes bs → check_body kind rule bs ≡ Faulty r → FaultOf kind rule bs r
+pub fault_at : (kind : ℕ) (rule : TimeRule) (bs : List ℕ) (r : Refusal) → Bytes bs → check_body kind rule bs ≡ Err r → FaultOf kind rule bs r
 unfolding check_body walk
 fault_at kind rule bs r raw e = go (open_body kind rule bs) refl e
   where
-    go : (o : Opened) → open_body kind rule bs ≡ o → check_opened o bs ≡ Faulty r → FaultOf kind rule bs r
+    go : (o : Opened) → open_body kind rule bs ≡ o → check_opened o bs ≡ Err r → FaultOf kind rule bs r
     go Carried q h = let z : ◌≡◌ {A = ℕ} 0 1 = cc in absurd (omega arith)
     go (Shaped sh) q h =
         let (long, (asked, w, is)) = word_says kind rule bs sh q in
         let s = shape_of sh.form asked rule in
         fault_from kind rule bs sh.form asked raw long w r (length bs + 1) 0 4 (omega arith) (walking_first s bs long) (come_first s bs)
-        (subst (λ (x : Shape). walk x bs ≡ Faulty r) is h)
+        (subst (λ (x : Shape). walk x bs ≡ Err r) is h)
     go Wrong q h =
         let is : fault 0 1 ≡ r = cc in
         subst (FaultOf kind rule bs) is (word_fault kind rule bs q)
@@ -378,7 +373,7 @@ fault_at kind rule bs r raw e = go (open_body kind rule bs) refl e
 
 -- a body is refused at this place, for this reason
 abbrev pub RefusedAt : ℕ → TimeRule → List ℕ → ℕ → ℕ → Type 0
-RefusedAt kind rule bs a reason = check_body kind rule bs ≡ Faulty (fault a reason)
+RefusedAt kind rule bs a reason = check_body kind rule bs ≡ Err (fault a reason)
 
 -- the walk comes to the end of right blocks, where it does not stop among them
 come_along : (sh : Shape) (bs rest : List ℕ) (es : List Entry) (front : List ℕ) (k : ℕ) → bs ≡ front ++ (blocks_bytes sh.form es ++ rest)
@@ -401,7 +396,7 @@ come_along sh bs rest (e ∷ es) front k is fit on now =
     rw (← k-is, ← at-is) more
 
 module _ (kind : ℕ) (rule : TimeRule) (bs : List ℕ) (form : Form) (asked : Asked) (es : List Entry) (rest : List ℕ)
-    (b : Begins kind (RightBy rule) bs form asked es rest) (within : counted_by asked ≡ true → length es ≤ count_by asked) where
+    (b : Begins kind (RightBy rule) bs form asked es rest) (within : (count : ℕ) → count_by asked ≡ Some count → length es ≤ count) where
   abbrev its_shape : Shape
   its_shape = shape_of form asked rule
 
@@ -428,7 +423,7 @@ module _ (kind : ℕ) (rule : TimeRule) (bs : List ℕ) (form : Form) (asked : A
       let split : bs ≡ take 4 bs ++ blocks ++ rest = b.is ∙ sym (append_assoc (take 4 bs) blocks rest) in
       (omega (arith, l, ap length split, length-append (take 4 bs ++ blocks) rest), ap (drop place) split ∙ drop_at (take 4 bs ++ blocks) rest place l)
 
-  begins_broken : {reason : ℕ} → Due asked (length es) rest → block_at its_shape bs place ≡ Broken (fault place reason) → RefusedAt kind rule bs place reason
+  begins_broken : {reason : ℕ} → Due asked (length es) rest → block_at its_shape bs place ≡ Err (fault place reason) → RefusedAt kind rule bs place reason
   begins_broken due broken =
       let on = due_going form rule (length bs) (length es) place rest begins_left.0 asked due in
       check_shaped kind rule bs its_shape opened ∙ counting_broken its_shape bs (length es) place begins_come _ on broken
@@ -443,19 +438,19 @@ module _ (kind : ℕ) (rule : TimeRule) (bs : List ℕ) (form : Form) (asked : A
       same r (inl (none, seven)) = absurd (omega (arith, breaks_there (TimeBy rule) form rest reason lowest.0))
       same r (inr other) = lowest_once (TimeBy rule) form rest r reason other lowest
 
-      go : (x : Block) → block_at its_shape bs place ≡ x → block_at its_shape bs place ≡ Broken (fault place reason)
-      go (Broken r) e =
+      go : (x : Result (Message × ℕ) Refusal) → block_at its_shape bs place ≡ x → block_at its_shape bs place ≡ Err (fault place reason)
+      go (Err r) e =
           let f = rw begins_left.1 at (broken_for its_shape bs place (DueWrong (TimeBy rule) form (drop place bs)) (each_wrong its_shape bs place in_body) r e) in
-          e ∙ ap Broken (f.0 ∙ ap (fault place) (same r.reason f.1))
-      go (Found m next) e = absurd (rw begins_left.1 at (found_none its_shape bs place in_body m next e reason) lowest.0)
+          e ∙ ap Err (f.0 ∙ ap (fault place) (same r.reason f.1))
+      go (Ok (m, next)) e = absurd (rw begins_left.1 at (found_none its_shape bs place in_body m next e reason) lowest.0)
 
   begins_missing : Due asked (length es) rest → length rest ≡ 0 → RefusedAt kind rule bs place 7
   begins_missing due none = begins_broken due (sym (none_there its_shape bs place (omega (arith, begins_left.0))))
 
-  begins_over : counted_by asked ≡ true → length es ≡ count_by asked → 1 ≤ length rest → RefusedAt kind rule bs place 6
+  begins_over : (count : ℕ) → count_by asked ≡ Some count → length es ≡ count → 1 ≤ length rest → RefusedAt kind rule bs place 6
   unfolding stop_at
-  begins_over c n more =
-      let stop : stop_at its_shape (length bs) (length es) place ≡ true = rw c (le-leb (count_by asked) (length es) (omega arith)) in
+  begins_over count c n more =
+      let stop : stop_at its_shape (length bs) (length es) place ≡ true = rw c (le-leb count (length es) (omega arith)) in
       check_shaped kind rule bs its_shape opened
       ∙ counting_stop its_shape bs (length es) place begins_come stop
       ∙ ending_over (length bs) (length es) place (λ e. omega (arith, begins_left.0))
@@ -485,7 +480,7 @@ at_fault kind rule bs a reason (wrong_word o long none) = wrong_refused kind rul
 at_fault kind rule bs a reason (block {form} {asked} {es} {rest} b due lowest) =
     begins_block kind rule bs form asked es rest b (due_within asked (length es) rest due) reason due lowest
 at_fault kind rule bs a reason (over {form} {count} {es} {rest} b n more) =
-    begins_over kind rule bs form (exactly count) es rest b (λ c. omega arith) refl n more
+    begins_over kind rule bs form (exactly count) es rest b (λ m e. let same : count ≡ m = cc in omega arith) count refl n more
 at_fault kind rule bs a reason (missing {form} {asked} {es} b due) =
     begins_missing kind rule bs form asked es [] b (due_within asked (length es) [] due) due refl
 

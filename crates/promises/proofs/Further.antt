@@ -1,4 +1,5 @@
 -- Reading ahead: what is read of a window that is filled further, and of the same bytes at another place of a buffer.
+use Rattle.std.specs.Prelude.{Result, Ok, Err}
 use mathlib.Core.Path.{◌≡◌, refl, sym, ap, subst, ◌∙◌}
 use mathlib.Core.List.{List, [], ◌∷◌, map, append-nil}
 use mathlib.Core.Bool.{Bool, true, false}
@@ -17,10 +18,6 @@ use Rattle.frame.proofs.Tables.{stage_some}
 use Rattle.packet.specs.Read.{window, packet_in, pass_bytes, read_answer, read_packet, packet_told}
 use Rattle.packet.specs.declared.Part.{Part}
 use Rattle.packet.specs.declared.Packet.{Packet}
-use Rattle.packet.specs.declared.PacketPass.{PacketPass}
-use Rattle.packet.specs.declared.PacketPass.TheVariants.{Passed, Barred}
-use Rattle.packet.specs.declared.PacketRead.{PacketRead}
-use Rattle.packet.specs.declared.PacketRead.TheVariants.{Accepted, Refused}
 use Rattle.packet.proofs.Passes.{Inside, inside_made, inside_on, window_ends, pass_inside}
 use Rattle.packet.proofs.Window.{own_part}
 use Rattle.packet.proofs.Own.{accepted_at, accepted_fits}
@@ -75,17 +72,17 @@ module _ (buf : List ℕ) (e e' : ℕ) (longer : e ≤ e') where
   reads_on_to (suc turns) s base t i i' = go (reads_on_to turns) (leb e s) (read_packet buf s e base) refl refl
     where
       go : ((s base : ℕ) → e - s ≤ turns → Inside buf s e base → Inside buf s e' base → ReadsOn s base)
-          → (b : Bool) (x : PacketRead) → leb e s ≡ b → read_packet buf s e base ≡ x → ReadsOn s base
+          → (b : Bool) (x : Result Packet Refusal) → leb e s ≡ b → read_packet buf s e base ≡ x → ReadsOn s base
       go f true x l q = rw (from_end buf s e base (leb-true e s l)) refl
-      go f false (Accepted p) l q =
+      go f false (Ok p) l q =
           let k = accepted_fits buf s e base p q in
-          let told : (packet_told (read_packet buf s e base)).refusal.number ≡ 0 = ap (λ (x : PacketRead). (packet_told x).refusal.number) q in
-          let again : read_packet buf s e' base ≡ Accepted p = read_longer buf s e e' base i i' longer (λ z. omega (arith, told, z)) (λ z. omega (arith, told, z)) ∙ q in
+          let told : (packet_told (read_packet buf s e base)).refusal.number ≡ 0 = ap (λ (x : Result Packet Refusal). (packet_told x).refusal.number) q in
+          let again : read_packet buf s e' base ≡ Ok p = read_longer buf s e e' base i i' longer (λ z. omega (arith, told, z)) (λ z. omega (arith, told, z)) ∙ q in
           let i₂ = inside_on buf s e base p.length i k.within in
           let i₂' = inside_on buf s e' base p.length i' (omega (arith, k.within)) in
           rw (from_on buf s e base p (leb-false e s l) q, from_on buf s e' base p (omega (arith, leb-false e s l)) again)
           (ap (λ (r : Reading). ahead p r) (f (s + p.length) (base + p.length) (omega (arith, k.some)) i₂ i₂'))
-      go f false (Refused r) l q = rw (from_stops buf s e base r (leb-false e s l) q) refl
+      go f false (Err r) l q = rw (from_stops buf s e base r (leb-false e s l) q) refl
 
   pub reads_on : (s base : ℕ) → Inside buf s e base → Inside buf s e' base → ReadsOn s base
   reads_on s base = reads_on_to (e - s) s base (omega arith)
@@ -93,9 +90,9 @@ module _ (buf : List ℕ) (e e' : ℕ) (longer : e ≤ e') where
 -- ---- the same bytes elsewhere
 
 -- an answer by its places in the recording
-abbrev pub in_read : PacketRead → PacketRead
-in_read (Accepted p) = Accepted (in_recording p)
-in_read (Refused r) = Refused (refused_in r)
+abbrev pub in_read : Result Packet Refusal → Result Packet Refusal
+in_read (Ok p) = Ok (in_recording p)
+in_read (Err r) = Err (refused_in r)
 
 far : (base at to n : ℕ) → base + (at + n - at) ≡ base + (to + n - to)
 far base at to n = omega arith
@@ -125,11 +122,11 @@ answer_elsewhere : (w : List ℕ) (at to base : ℕ) → in_read (read_answer (p
 unfolding read_answer
 answer_elsewhere w at to base = rw (pass_elsewhere w at to) (go (pass_bytes w at))
   where
-    go : (x : PacketPass) → in_read (read_answer x w at base) ≡ in_read (read_answer (from_to at to x) w to base)
-    go (Passed n) = ap Accepted (packet_elsewhere_lem w at to base)
-    go (Barred r) =
+    go : (x : Result ℕ Refusal) → in_read (read_answer x w at base) ≡ in_read (read_answer (from_to at to x) w to base)
+    go (Ok n) = ap Ok (packet_elsewhere_lem w at to base)
+    go (Err r) =
         let place : base + (r.place - at) ≡ base + (to + (r.place - at) - to) = omega arith in
-        λ i. Refused (record { number = r.number; place = place i; room = r.room; reason = r.reason; recording_place = place i })
+        λ i. Err (record { number = r.number; place = place i; room = r.room; reason = r.reason; recording_place = place i })
 
 pub answers_elsewhere : (a b : List ℕ) (s e s' e' base : ℕ) → Inside a s e base → Inside b s' e' base → window a s e ≡ window b s' e'
     → in_read (read_packet a s e base) ≡ in_read (read_packet b s' e' base)
@@ -143,7 +140,7 @@ pub record SameFrom (a b : List ℕ) (r r' : Reading) : Type 0 where
   pub refusal : refused_in r.refusal ≡ refused_in r'.refusal
 
 -- the bytes of an accepted packet, by its place, are the first ones of its window
-bytes_there : (buf : List ℕ) (s e base : ℕ) (p : Packet) → read_packet buf s e base ≡ Accepted p → bytes_in buf p ≡ take p.length (window buf s e)
+bytes_there : (buf : List ℕ) (s e base : ℕ) (p : Packet) → read_packet buf s e base ≡ Ok p → bytes_in buf p ≡ take p.length (window buf s e)
 unfolding packet_in
 bytes_there buf s e base p q =
     let k = accepted_fits buf s e base p q in
@@ -161,12 +158,12 @@ module _ (a b : List ℕ) (e e' : ℕ) where
       (rw same (window_ends b s' e' base i'))
     where
       go : ((s s' base : ℕ) → e - s ≤ turns → Inside a s e base → Inside b s' e' base → window a s e ≡ window b s' e' → SameFrom a b (from a s e base) (from b s' e' base))
-          → (t : Bool) (x y : PacketRead) → leb e s ≡ t → read_packet a s e base ≡ x → read_packet b s' e' base ≡ y
+          → (t : Bool) (x y : Result Packet Refusal) → leb e s ≡ t → read_packet a s e base ≡ x → read_packet b s' e' base ≡ y
           → in_read (read_packet a s e base) ≡ in_read (read_packet b s' e' base) → s' + length (window a s e) ≡ e' → SameFrom a b (from a s e base) (from b s' e' base)
       go f true x y l q q' is long =
           rw (from_end a s e base (leb-true e s l), from_end b s' e' base (omega (arith, long, window_ends a s e base i, leb-true e s l)))
           (record { packets = refl; reached = refl; refusal = refl })
-      go f false (Accepted p) (Accepted p') l q q' is long =
+      go f false (Ok p) (Ok p') l q q' is long =
           let k = accepted_fits a s e base p q in
           let k' = accepted_fits b s' e' base p' q' in
           let alike : in_recording p ≡ in_recording p' = cc (rw (q, q') at is) in
@@ -182,12 +179,12 @@ module _ (a b : List ℕ) (e e' : ℕ) where
           subst (λ (m : ℕ). SameFrom a b (from a (s + p.length) e (base + p.length)) (from b (s' + p'.length) e' (base + m))) n next in
           rw (from_on a s e base p (leb-false e s l) q, from_on b s' e' base p' (omega (arith, k'.some, k'.within)) q')
           (record { packets = λ j. one j ∷ on.packets j; reached = on.reached; refusal = on.refusal })
-      go f false (Refused r) (Refused r') l q q' is long =
+      go f false (Err r) (Err r') l q q' is long =
           let alike : refused_in r ≡ refused_in r' = cc (rw (q, q') at is) in
           rw (from_stops a s e base r (leb-false e s l) q, from_stops b s' e' base r' (omega (arith, long, window_ends a s e base i, leb-false e s l)) q')
           (record { packets = refl; reached = refl; refusal = alike })
-      go f false (Accepted p) (Refused r') l q q' is long = let contrary : ◌≡◌ {A = ℕ} 0 1 = cc (rw (q, q') at is) in absurd (omega arith)
-      go f false (Refused r) (Accepted p') l q q' is long = let contrary : ◌≡◌ {A = ℕ} 0 1 = cc (rw (q, q') at is) in absurd (omega arith)
+      go f false (Ok p) (Err r') l q q' is long = let contrary : ◌≡◌ {A = ℕ} 0 1 = cc (rw (q, q') at is) in absurd (omega arith)
+      go f false (Err r) (Ok p') l q q' is long = let contrary : ◌≡◌ {A = ℕ} 0 1 = cc (rw (q, q') at is) in absurd (omega arith)
 
   pub from_elsewhere : (s s' base : ℕ) → Inside a s e base → Inside b s' e' base → window a s e ≡ window b s' e' → SameFrom a b (from a s e base) (from b s' e' base)
   from_elsewhere s s' base = alike_to (e - s) s s' base (omega arith)
@@ -231,7 +228,7 @@ module _ (buf : List ℕ) (s e e' base : ℕ) (i : Inside buf s e base) (i' : In
       (λ f. absurd (stands (rw f.2 (among_one 0 waiting refl))))
       (λ f.
       let number : (packet_told (read_packet buf r.reached e r.recording_reached)).refusal.number ≡ r.refusal.number = ap (λ (x : Refusal). x.number) f.0 in
-      let again : read_packet buf r.reached e' r.recording_reached ≡ Refused r.refusal =
+      let again : read_packet buf r.reached e' r.recording_reached ≡ Err r.refusal =
       read_longer buf r.reached e e' r.recording_reached at at' longer (λ z. stands (rw (sym number ∙ z) (among_one 2 waiting refl))) (λ z. stands (rw (sym number ∙ z) (among_one 10 waiting refl)))
       ∙ refused_here buf e r.reached r.recording_reached r.refusal f.0 f.1 in
       reads_on buf e e' longer s base i i'

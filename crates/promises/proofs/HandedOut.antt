@@ -1,4 +1,5 @@
 -- Demand 1: a recording hands out what the one-packet reader accepts, place by place, and nothing outside its window has a say.
+use Rattle.std.specs.Prelude.{Result, Ok, Err}
 use mathlib.Core.Path.{◌≡◌, refl, sym, ap, ◌∙◌}
 use mathlib.Core.List.{List, [], ◌∷◌, ◌++◌}
 use mathlib.Core.Bool.{Bool, true, false, true≢false}
@@ -17,8 +18,6 @@ use Rattle.terms.specs.Refusals.{refused, no_refusal, recorded}
 use Rattle.terms.specs.declared.Refusal.{Refusal}
 use Rattle.packet.specs.Read.{inside, window, read_packet, no_packet, PacketTold, packet_told}
 use Rattle.packet.specs.declared.Packet.{Packet}
-use Rattle.packet.specs.declared.PacketRead.{PacketRead}
-use Rattle.packet.specs.declared.PacketRead.TheVariants.{Accepted, Refused}
 use Rattle.packet.proofs.Own.{accepted_fits}
 use Rattle.packet.proofs.Passes.{Inside, inside_says, inside_made, inside_same, pass_outside, read_barred}
 use Rattle.packet.proofs.Told.{read_told_lem, refusal_numbered}
@@ -50,17 +49,17 @@ module _ (buf : List ℕ) (end : ℕ) where
   handed_end at base h =
       record { each = λ i l. absurd (omega arith); covers = sym (add-zero at); recorded = sym (add-zero base); ends = inl (h, refl) }
 
-  handed_stops : (at base : ℕ) (r : Refusal) → at < end → read_packet buf at end base ≡ Refused r → HandedFrom buf at end base (stopped at base r)
+  handed_stops : (at base : ℕ) (r : Refusal) → at < end → read_packet buf at end base ≡ Err r → HandedFrom buf at end base (stopped at base r)
   unfolding length_of
   handed_stops at base r h q =
       record {
         each = λ i l. absurd (omega arith);
         covers = sym (add-zero at);
         recorded = sym (add-zero base);
-        ends = inr (ap (λ (x : PacketRead). (packet_told x).refusal) q, refusal_numbered buf at end base r q, h);
+        ends = inr (ap (λ (x : Result Packet Refusal). (packet_told x).refusal) q, refusal_numbered buf at end base r q, h);
       }
 
-  handed_on : (at base : ℕ) (p : Packet) (r : Reading) → read_packet buf at end base ≡ Accepted p → HandedFrom buf (at + p.length) end (base + p.length) r
+  handed_on : (at base : ℕ) (p : Packet) (r : Reading) → read_packet buf at end base ≡ Ok p → HandedFrom buf (at + p.length) end (base + p.length) r
       → HandedFrom buf at end base (ahead p r)
   unfolding length_of
   handed_on at base p r q h =
@@ -84,25 +83,25 @@ module _ (buf : List ℕ) (end : ℕ) where
   handed_to (suc turns) at base t h = go (handed_to turns) (leb end at) (read_packet buf at end base) refl refl
     where
       go : ((next base : ℕ) → end - next ≤ turns → next ≤ end → HandedFrom buf next end base (from buf next end base))
-          → (b : Bool) (x : PacketRead) → leb end at ≡ b → read_packet buf at end base ≡ x → HandedFrom buf at end base (from buf at end base)
+          → (b : Bool) (x : Result Packet Refusal) → leb end at ≡ b → read_packet buf at end base ≡ x → HandedFrom buf at end base (from buf at end base)
       go f true x l q = let over = leb-true end at l in rw (from_end buf at end base over) (handed_end at base (omega arith))
-      go f false (Accepted p) l q =
+      go f false (Ok p) l q =
           let k = accepted_fits buf at end base p q in
           rw (from_on buf at end base p (leb-false end at l) q) (handed_on at base p _ q (f (at + p.length) (base + p.length) (omega arith) k.within))
-      go f false (Refused r) l q = rw (from_stops buf at end base r (leb-false end at l) q) (handed_stops at base r (leb-false end at l) q)
+      go f false (Err r) l q = rw (from_stops buf at end base r (leb-false end at l) q) (handed_stops at base r (leb-false end at l) q)
 
 -- whatever is handed out so is what is read
 module _ (buf : List ℕ) (end : ℕ) where
-  pub accepted_here : (at base : ℕ) (p : Packet) → packet_told (read_packet buf at end base) ≡ accepted p → read_packet buf at end base ≡ Accepted p
+  pub accepted_here : (at base : ℕ) (p : Packet) → packet_told (read_packet buf at end base) ≡ accepted p → read_packet buf at end base ≡ Ok p
   accepted_here at base p h =
-      read_told_lem buf at end base (ap (λ (t : PacketTold). t.refusal.number) h) ∙ ap (λ (t : PacketTold). Accepted t.packet) h
+      read_told_lem buf at end base (ap (λ (t : PacketTold). t.refusal.number) h) ∙ ap (λ (t : PacketTold). Ok t.packet) h
 
-  pub refused_here : (at base : ℕ) (r : Refusal) → (packet_told (read_packet buf at end base)).refusal ≡ r → r.number ≢ 0 → read_packet buf at end base ≡ Refused r
+  pub refused_here : (at base : ℕ) (r : Refusal) → (packet_told (read_packet buf at end base)).refusal ≡ r → r.number ≢ 0 → read_packet buf at end base ≡ Err r
   refused_here at base r h n = go (read_packet buf at end base) h
     where
-      go : (x : PacketRead) → (packet_told x).refusal ≡ r → x ≡ Refused r
-      go (Accepted p) q = absurd (n (sym (ap (λ (f : Refusal). f.number) q)))
-      go (Refused f) q = ap Refused q
+      go : (x : Result Packet Refusal) → (packet_told x).refusal ≡ r → x ≡ Err r
+      go (Ok p) q = absurd (n (sym (ap (λ (f : Refusal). f.number) q)))
+      go (Err f) q = ap Err q
 
   handed_once : (ps : List Packet) (at base reached recorded : ℕ) (r : Refusal)
       → HandedFrom buf at end base (record { packets = ps; reached = reached; recording_reached = recorded; refusal = r })
@@ -148,7 +147,7 @@ pub within_inside : (buf : List ℕ) (s e base : ℕ) → Within buf s e base �
 within_inside buf s e base w = record { ordered = w.0; within = w.1; fits = omega (arith, w.2) }
 
 module _ (buf : List ℕ) (s e base : ℕ) where
-  pub read_outside : inside buf s e base ≡ false → read_packet buf s e base ≡ Refused (recorded base s (refused 1 s))
+  pub read_outside : inside buf s e base ≡ false → read_packet buf s e base ≡ Err (recorded base s (refused 1 s))
   read_outside o = sym (read_barred buf s e base (refused 1 s) _ (pass_outside buf s e base o) refl)
 
   hands_inside : inside buf s e base ≡ true → (r : Reading) → HandedFrom buf s e base r → HandsOut buf s e base (answer r) r.packets
@@ -181,7 +180,7 @@ module _ (buf : List ℕ) (s e base : ℕ) where
         recorded = sym (add-zero base);
         ends =
             inr (
-              ap (λ (x : PacketRead). (packet_told x).refusal) (read_outside o),
+              ap (λ (x : Result Packet Refusal). (packet_told x).refusal) (read_outside o),
               (λ (z : ◌≡◌ {A = ℕ} 1 0). omega arith),
               λ t. absurd (not_within o t),
             );

@@ -1,4 +1,5 @@
 -- Document 02 §9: places in the recording are a base plus the distance from the window's start, and nothing else rests on the base.
+use Rattle.std.specs.Prelude.{Result, Ok, Err}
 use mathlib.Core.Path.{◌≡◌, refl, sym, ap, ◌∙◌}
 use mathlib.Core.List.{List, ◌∷◌}
 use mathlib.Core.Bool.{Bool, true, false, false≢true}
@@ -16,13 +17,6 @@ use Rattle.frame.specs.Table.{first, head_lines, value_lines, whole_lines, secon
 use Rattle.packet.specs.Read.{window, packet_in, pass_bytes, pass_window, read_answer, read_packet, packet_told}
 use Rattle.packet.specs.Messages.{message_count, kth_message, list_answer, recorded_list, list_packet, list_after, starts, lengths, message_answer, recorded_message, message_packet, list_told, entries, message_told}
 use Rattle.packet.specs.declared.Packet.{Packet}
-use Rattle.packet.specs.declared.PacketPass.{PacketPass}
-use Rattle.packet.specs.declared.PacketPass.TheVariants.{Passed, Barred}
-use Rattle.packet.specs.declared.PacketRead.{PacketRead}
-use Rattle.packet.specs.declared.PacketList.{PacketList}
-use Rattle.packet.specs.declared.PacketList.TheVariants.{Listed, Unlisted}
-use Rattle.packet.specs.declared.PacketMessage.{PacketMessage}
-use Rattle.packet.specs.declared.PacketMessage.TheVariants.{Given, Withheld}
 use Rattle.packet.proofs.Passes.{Inside, inside_made, window_ends, bytes_passed, pass_outside, pass_inside, read_barred}
 use Rattle.packet.proofs.Told.{pass_numbered}
 use Rattle.packet.proofs.Window.{entries_told}
@@ -59,7 +53,7 @@ module _ (buf : List ℕ) (s e base : ℕ) where
   none_recorded : Recorded s base no_refusal
   none_recorded some = absurd (some refl)
 
-  barred_recorded : (r : Refusal) → pass_window buf s e base ≡ Barred r → Recorded s base (recorded base s r)
+  barred_recorded : (r : Refusal) → pass_window buf s e base ≡ Err r → Recorded s base (recorded base s r)
   barred_recorded r q some = window_recorded buf s e base r q
 
   read_recorded : Recorded s base (packet_told (read_packet buf s e base)).refusal
@@ -86,7 +80,7 @@ recording_recorded buf start end base some =
 -- ---- 1
 
 module _ (buf : List ℕ) (s e base : ℕ) (other : ¬ Within buf s e base) where
-  outside : pass_window buf s e base ≡ Barred (refused 1 s)
+  outside : pass_window buf s e base ≡ Err (refused 1 s)
   outside = pass_outside buf s e base (not_inside buf s e base other)
 
   told_outside : packet_told (read_packet buf s e base) ≡ read_told (refused_there 1 s base) zero_packet
@@ -115,10 +109,10 @@ module _ (buf : List ℕ) (s e base : ℕ) (within : Within buf s e base) where
   abbrev Other : Refusal → Type 0
   Other r = r.number ≢ 1
 
-  barred_within : (r : Refusal) → pass_window buf s e base ≡ Barred r → Other (recorded base s r)
+  barred_within : (r : Refusal) → pass_window buf s e base ≡ Err r → Other (recorded base s r)
   barred_within r q is =
       read_within buf s e base within
-      (sym (ap (λ (x : PacketRead). (packet_told x).refusal.number) (read_barred buf s e base r _ q refl)) ∙ is)
+      (sym (ap (λ (x : Result Packet Refusal). (packet_told x).refusal.number) (read_barred buf s e base r _ q refl)) ∙ is)
 
   list_within : (m n : ℕ) → Other (list_told (list_packet buf s e base m n)).refusal
   list_within = list_all buf s e base Other (λ (z : ◌≡◌ {A = ℕ} 0 1). omega arith) barred_within (λ count (z : ◌≡◌ {A = ℕ} 16 1). omega arith)
@@ -166,21 +160,21 @@ module _ (a b : List ℕ) (s e base base' : ℕ) (in_a : Inside a s e base) (in_
   pass_b : pass_window b s e base' ≡ pass_bytes w s
   pass_b = pass_inside b s e base' (inside_made b s e base' in_b) ∙ ap (λ (v : List ℕ). pass_bytes v s) (sym same)
 
-  numbered : (r : Refusal) → pass_bytes w s ≡ Barred r → r.number ≢ 0
+  numbered : (r : Refusal) → pass_bytes w s ≡ Err r → r.number ≢ 0
   numbered r q = pass_numbered a s e base r (pass_a ∙ q)
 
   read_apart : ToldApart base base' (packet_told (read_packet a s e base)) (packet_told (read_packet b s e base'))
   unfolding read_packet read_answer
   read_apart = rw (pass_a, pass_b, ← same) (go (pass_bytes w s) refl)
     where
-      go : (x : PacketPass) → pass_bytes w s ≡ x → ToldApart base base' (packet_told (read_answer x w s base)) (packet_told (read_answer x w s base'))
-      go (Passed n) q =
+      go : (x : Result ℕ Refusal) → pass_bytes w s ≡ x → ToldApart base base' (packet_told (read_answer x w s base)) (packet_told (read_answer x w s base'))
+      go (Ok n) q =
           record {
             refusal = none_apart base base';
             accepted = λ z. packet_apart base base' s base base' (omega arith) w;
             refused = λ h. absurd (h refl);
           }
-      go (Barred r) q =
+      go (Err r) q =
           record {
             refusal = refusal_apart base base' s base base' (omega arith) r (numbered r q);
             accepted = λ z. absurd (numbered r q z);
@@ -188,7 +182,7 @@ module _ (a b : List ℕ) (s e base base' : ℕ) (in_a : Inside a s e base) (in_
           }
 
   -- the two lists' answers are one, but for the place in the recording
-  abbrev listed : ℕ → ℕ → PacketList
+  abbrev listed : ℕ → ℕ → Result ℕ Refusal
   listed m n = list_answer (pass_bytes w s) s (message_count w) (min m n)
 
   list_a : (m n : ℕ) → list_packet a s e base m n ≡ recorded_list base s (listed m n)
@@ -199,7 +193,7 @@ module _ (a b : List ℕ) (s e base base' : ℕ) (in_a : Inside a s e base) (in_
   unfolding list_packet
   list_b m n = rw (pass_b, ← same)
 
-  abbrev ListApart : PacketList → Type 0
+  abbrev ListApart : Result ℕ Refusal → Type 0
   ListApart x =
       RefusalApart base base' (list_told (recorded_list base s x)).refusal (list_told (recorded_list base' s x)).refusal
       × ((list_told (recorded_list base s x)).count ≡ (list_told (recorded_list base' s x)).count)
@@ -208,18 +202,18 @@ module _ (a b : List ℕ) (s e base base' : ℕ) (in_a : Inside a s e base) (in_
   unfolding list_answer
   listed_apart m n = go (pass_bytes w s) refl
     where
-      fits : (t : Bool) (count : ℕ) → ListApart (pick t (Unlisted (needing count (refused 16 s))) (Listed count))
+      fits : (t : Bool) (count : ℕ) → ListApart (pick t (Err (needing count (refused 16 s))) (Ok count))
       fits true count = (refusal_apart base base' s base base' (omega arith) (needing count (refused 16 s)) (λ (z : ◌≡◌ {A = ℕ} 16 0). omega arith), refl)
       fits false count = (none_apart base base', refl)
 
-      go : (x : PacketPass) → pass_bytes w s ≡ x → ListApart (list_answer x s (message_count w) (min m n))
-      go (Passed p) q = fits (ltb (min m n) (message_count w)) (message_count w)
-      go (Barred r) q = (refusal_apart base base' s base base' (omega arith) r (numbered r q), refl)
+      go : (x : Result ℕ Refusal) → pass_bytes w s ≡ x → ListApart (list_answer x s (message_count w) (min m n))
+      go (Ok p) q = fits (ltb (min m n) (message_count w)) (message_count w)
+      go (Err r) q = (refusal_apart base base' s base base' (omega arith) r (numbered r q), refl)
 
-  entries_recorded : (at start : ℕ) (x : PacketList) (values : ℕ → ℕ) (old : List ℕ) → entries (recorded_list at start x) values old ≡ entries x values old
+  entries_recorded : (at start : ℕ) (x : Result ℕ Refusal) (values : ℕ → ℕ) (old : List ℕ) → entries (recorded_list at start x) values old ≡ entries x values old
   unfolding list_after
-  entries_recorded at start (Listed n) values old = refl
-  entries_recorded at start (Unlisted r) values old = refl
+  entries_recorded at start (Ok n) values old = refl
+  entries_recorded at start (Err r) values old = refl
 
   entries_apart : (values : ℕ → ℕ) (m n : ℕ) (old old' : List ℕ)
       → entries (recorded_list base s (listed m n)) values old ≡ entries (recorded_list base' s (listed m n)) values old'
@@ -228,10 +222,10 @@ module _ (a b : List ℕ) (s e base base' : ℕ) (in_a : Inside a s e base) (in_
       ∙ entries_told (listed m n) values old old'
       ∙ sym (entries_recorded base' s (listed m n) values old')
 
-  abbrev given : ℕ → PacketMessage
+  abbrev given : ℕ → Result Message Refusal
   given k = message_answer (pass_bytes w s) s (message_count w) k (kth_message w k)
 
-  abbrev MessageApart : PacketMessage → Type 0
+  abbrev MessageApart : Result Message Refusal → Type 0
   MessageApart x =
       RefusalApart base base' (message_told (recorded_message base s x)).refusal (message_told (recorded_message base' s x)).refusal
       × ((message_told (recorded_message base s x)).message ≡ (message_told (recorded_message base' s x)).message)
@@ -240,13 +234,13 @@ module _ (a b : List ℕ) (s e base base' : ℕ) (in_a : Inside a s e base) (in_
   unfolding message_answer
   given_apart k = go (pass_bytes w s) refl
     where
-      there : (t : Bool) (m : Message) → MessageApart (pick t (Withheld (refused 17 s)) (Given m))
+      there : (t : Bool) (m : Message) → MessageApart (pick t (Err (refused 17 s)) (Ok m))
       there true m = (refusal_apart base base' s base base' (omega arith) (refused 17 s) (λ (z : ◌≡◌ {A = ℕ} 17 0). omega arith), refl)
       there false m = (none_apart base base', refl)
 
-      go : (x : PacketPass) → pass_bytes w s ≡ x → MessageApart (message_answer x s (message_count w) k (kth_message w k))
-      go (Passed p) q = there (leb (message_count w) k) (kth_message w k)
-      go (Barred r) q = (refusal_apart base base' s base base' (omega arith) r (numbered r q), refl)
+      go : (x : Result ℕ Refusal) → pass_bytes w s ≡ x → MessageApart (message_answer x s (message_count w) k (kth_message w k))
+      go (Ok p) q = there (leb (message_count w) k) (kth_message w k)
+      go (Err r) q = (refusal_apart base base' s base base' (omega arith) r (numbered r q), refl)
 
   message_apart : (k : ℕ)
       → RefusalApart base base' (message_told (message_packet a s e base k)).refusal (message_told (message_packet b s e base' k)).refusal
@@ -274,11 +268,11 @@ module _ (a b : List ℕ) (e base base' : ℕ) where
     abbrev rest : List ℕ → ℕ → Packet → Reading
     rest buf from-here p = read_from turns buf (at + p.length) e (from-here + p.length)
 
-    passes : (x : PacketPass) → pass_bytes (window a at e) at ≡ x
+    passes : (x : Result ℕ Refusal) → pass_bytes (window a at e) at ≡ x
         → ReadingApart base base' (onward (read_answer x (window a at e) at here) at here (rest a here))
         (onward (read_answer x (window a at e) at here') at here' (rest b here'))
     unfolding read_answer packet_in
-    passes (Passed n) q =
+    passes (Ok n) q =
         let sound = (bytes_passed (window a at e) at n q).sound in
         let behind = more (packet_length (window a at e)) (omega (arith, sound.there, window_ends a at e here in_a)) in
         record {
@@ -287,7 +281,7 @@ module _ (a b : List ℕ) (e base base' : ℕ) where
           recording_reached = behind.recording_reached;
           refusal = behind.refusal;
         }
-    passes (Barred r) q =
+    passes (Err r) q =
         stop_apart at here here' _ _ far (refusal_apart base base' at here here' far r (numbered a b at e here here' in_a in_b same r q))
 
     step_apart : (t : Bool)

@@ -1,4 +1,5 @@
 -- Document 02 §2: number, place and reason are fixed together, and only 15 has a reason.
+use Rattle.std.specs.Prelude.{Result}
 use mathlib.Core.Path.{◌≡◌, refl, sym, ap, ◌∙◌}
 use mathlib.Core.List.{List, ◌∷◌, ◌++◌}
 use mathlib.Core.Bool.{Bool, true, false, not}
@@ -10,10 +11,8 @@ use Rattle.units.specs.Units.{Bytes}
 use Rattle.units.specs.Choice.{pick}
 use Rattle.units.proofs.Parts.{bytes_part}
 use Rattle.terms.specs.declared.Refusal.{Refusal}
-use Rattle.builder.specs.Build.{makes, bad_draft, open_step, bad_block, bad_time, stray_time, grown, add_step, close_step, step_told}
+use Rattle.builder.specs.Build.{denied, makes, bad_draft, open_step, bad_block, bad_time, stray_time, grown, add_step, close_step, step_told}
 use Rattle.builder.specs.declared.Draft.{Draft}
-use Rattle.builder.specs.declared.Step.{Step}
-use Rattle.builder.specs.declared.Step.TheVariants.{Denied}
 use Rattle.frame.specs.Contents.{Contents}
 use Rattle.packet.specs.Read.{window, read_packet, packet_told}
 use Rattle.packet.specs.Write.{write_packet, write_told}
@@ -105,29 +104,29 @@ recording_else buf start end base other =
     (λ h. rw h.0 at (read_else buf (read_recording buf start end base).reached end (read_recording buf start end base).recording_reached (λ n. other (sym (ap (λ (r : Refusal). r.number) h.0) ∙ n))))
     (hands_out buf start end base).ends
 
-abbrev StepElse : Step → Type 0
+abbrev StepElse : Result Draft (Refusal × Draft) → Type 0
 StepElse s = ElseNone (step_told s).refusal
 
 -- a refusal by its test, then the rest
-denied : (t : Bool) (r : Refusal) (d : Draft) (rest : Step) → ElseNone r → StepElse rest → StepElse (pick t (Denied r d) rest)
-denied true r d rest here next = here
-denied false r d rest here next = next
+denies : (t : Bool) (r : Refusal) (d : Draft) (rest : Result Draft (Refusal × Draft)) → ElseNone r → StepElse rest → StepElse (pick t (denied r d) rest)
+denies true r d rest here next = here
+denies false r d rest here next = next
 
 open_else : (d : Draft) (kind rule len : ℕ) → StepElse (open_step d kind rule len)
 unfolding open_step
-open_else d kind rule len = denied (not (makes kind rule)) _ d _ (λ o. refl) (denied (ltb len 4) _ d _ (λ o. refl) (λ o. refl))
+open_else d kind rule len = denies (not (makes kind rule)) _ d _ (λ o. refl) (denies (ltb len 4) _ d _ (λ o. refl) (λ o. refl))
 
 add_else : (d : Draft) (len time n : ℕ) → StepElse (add_step d len time n)
 unfolding add_step
 add_else d len time n =
-    denied (bad_draft d len) _ d _ (λ o. refl)
-    (denied (bad_block d n) _ d _ (λ o. refl)
-    (denied (bad_time d.rule time) _ d _ (λ o. absurd (o refl))
-    (denied (stray_time d.rule time) _ d _ (λ o. refl) (denied (ltb len (grown d n)) _ d _ (λ o. refl) (λ o. refl)))))
+    denies (bad_draft d len) _ d _ (λ o. refl)
+    (denies (bad_block d n) _ d _ (λ o. refl)
+    (denies (bad_time d.rule time) _ d _ (λ o. absurd (o refl))
+    (denies (stray_time d.rule time) _ d _ (λ o. refl) (denies (ltb len (grown d n)) _ d _ (λ o. refl) (λ o. refl)))))
 
 close_else : (d : Draft) (len : ℕ) → StepElse (close_step d len)
 unfolding close_step
-close_else d len = denied (bad_draft d len) _ d _ (λ o. refl) (denied (eqb d.used 4) _ d _ (λ o. absurd (o refl)) (λ o. refl))
+close_else d len = denies (bad_draft d len) _ d _ (λ o. refl) (denies (eqb d.used 4) _ d _ (λ o. absurd (o refl)) (λ o. refl))
 
 pub reasons : Reasons
 reasons =

@@ -14,7 +14,7 @@ use Rattle.packet.specs.Read.{window}
 use Rattle.frame.specs.Contents.{Contents}
 use Rattle.packet_bytes.specs.Bytes.{packet_bytes}
 use Rattle.packet.specs.declared.Packet.{Packet}
-use Rattle.packet.proofs.Passes.{Inside, inside_made, inside_on, window_ends, pass_framed_not, pass_inside, read_barred}
+use Rattle.packet.proofs.Passes.{Inside, inside_made, inside_on, window_ends, pass_refused, pass_inside, read_barred}
 use Rattle.packet.proofs.Window.{own_part}
 use Rattle.recording.specs.Reading.{Reading, stopped, ahead, reading, read_recording}
 use Rattle.recording.proofs.Readings.{from, joined, from_end, from_on, from_stops, reading_inside}
@@ -140,7 +140,7 @@ module _ (buf : List ℕ) (start end base : ℕ) (in_buf : Inside buf start end 
       let f = front in
       let w = f.behind ∙ e in
       let number : n ≡ first (frame_lines (window buf reached end)) = sym (ap (λ (l : List ℕ). first (frame_lines l)) w ∙ altered_refused c a rest n ys h) in
-      let barred = pass_framed_not (window buf reached end) reached n number (refused n reached) (altered_number c n ys h) refl in
+      let barred = pass_refused (window buf reached end) reached (refused n reached) (rw (← number) (altered_number c n ys h)) (rw (← number) refl) in
       let stops = pass_inside buf reached end recorded_reached (inside_made buf reached end recorded_reached f.in_buf) ∙ sym barred in
       let some : reached < end = omega (arith, front_fits buf end reached recorded_reached f.in_buf ys rest w, altered_some c n ys h) in
       reads_on (refused_there n reached recorded_reached)

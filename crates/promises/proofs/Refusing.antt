@@ -1,4 +1,5 @@
 -- The number that a reading tells is that of the first rule that is not kept, where each line of the table says its rule.
+use Rattle.std.specs.Prelude.{Result, Ok, Err}
 use mathlib.Core.Path.{◌≡◌, refl, sym, subst, ◌∙◌}
 use mathlib.Core.List.{List, [], ◌∷◌, ◌++◌}
 use mathlib.Core.Bool.{Bool, true, false, not, false≢true}
@@ -9,18 +10,15 @@ use lib.Dec.{T, eqb}
 use borrow.Author.Tests.{eqb-true, eqb-false}
 use Rattle.units.specs.Choice.{pick}
 use Rattle.terms.specs.Refusals.{refused, needing, recorded}
-use Rattle.body.specs.declared.Checked.{Checked}
-use Rattle.body.specs.declared.Checked.TheVariants.{Counted, Faulty}
 use Rattle.frame.specs.Table.{Line, line, first, head_lines, value_lines, whole_lines, secondary_lines, trailer_lines, frame_lines}
 use Rattle.frame.proofs.Tables.{numbered, stage_some, stage_none}
 use Rattle.packet.proofs.Told.{Says15, checked_15}
 use Rattle.packet.specs.Read.{inside, window, body_checked, pass_body, pass_bytes, pass_window, read_answer, read_packet, packet_told}
-use Rattle.packet.specs.declared.PacketPass.{PacketPass}
-use Rattle.packet.specs.declared.PacketPass.TheVariants.{Passed, Barred}
 use Rattle.promises.specs.Endings.{refused_there}
 use Rattle.promises.specs.Refusals.{OneOf, reader_refusals}
 use Rattle.promises.proofs.BodiesKept.{body_passes}
 use Rattle.promises.proofs.Members.{among, apart, apart_here, apart_next, one_among, one_behind}
+use Rattle.terms.specs.declared.Refusal.{Refusal}
 
 -- ---- a table's number
 
@@ -124,35 +122,35 @@ unfolding frame_lines head_lines value_lines whole_lines secondary_lines trailer
 frame_numbered w = tt
 
 -- the number that the reader's tests give
-abbrev pass_number : PacketPass → ℕ
-pass_number (Passed n) = 0
-pass_number (Barred r) = r.number
+abbrev pass_number : Result ℕ Refusal → ℕ
+pass_number (Ok n) = 0
+pass_number (Err r) = r.number
 
-body_number : (c : Checked) (w : List ℕ) (at : ℕ) → Says15 c → pass_number (pass_body c w at) ≡ first (line 15 (body_passes c) ∷ [])
+body_number : (c : Result ℕ Refusal) (w : List ℕ) (at : ℕ) → Says15 c → pass_number (pass_body c w at) ≡ first (line 15 (body_passes c) ∷ [])
 unfolding pass_body first
-body_number (Counted n) w at right = refl
-body_number (Faulty f) w at right = (right f refl).0
+body_number (Ok n) w at right = refl
+body_number (Err f) w at right = (right f refl).0
 
 bytes_number : (w : List ℕ) (at : ℕ) → pass_number (pass_bytes w at) ≡ first (bytes_lines w)
 unfolding pass_bytes
 bytes_number w at = go (eqb (first (frame_lines w)) 0) refl
   where
     go : (b : Bool) → eqb (first (frame_lines w)) 0 ≡ b
-        → pass_number (pick (not b) (Barred (refused (first (frame_lines w)) at)) (pass_body (body_checked w) w at)) ≡ first (bytes_lines w)
+        → pass_number (pick (not b) (Err (refused (first (frame_lines w)) at)) (pass_body (body_checked w) w at)) ≡ first (bytes_lines w)
     go true q =
         body_number (body_checked w) w at (checked_15 w) ∙ sym (stage_none (frame_lines w) _ (frame_numbered w) (eqb-true (first (frame_lines w)) 0 q))
     go false q = stage_some (frame_lines w) _ (first (frame_lines w)) refl (eqb-false (first (frame_lines w)) 0 q)
 
-told_number : (x : PacketPass) (w : List ℕ) (s base : ℕ) → (packet_told (read_answer x w s base)).refusal.number ≡ pass_number x
+told_number : (x : Result ℕ Refusal) (w : List ℕ) (s base : ℕ) → (packet_told (read_answer x w s base)).refusal.number ≡ pass_number x
 unfolding read_answer
-told_number (Passed n) w s base = refl
-told_number (Barred r) w s base = refl
+told_number (Ok n) w s base = refl
+told_number (Err r) w s base = refl
 
 pub number_is : (buf : List ℕ) (s e base : ℕ) → (packet_told (read_packet buf s e base)).refusal.number ≡ first (all_lines buf s e base)
 unfolding read_packet pass_window first all_lines
 number_is buf s e base = told_number (pass_window buf s e base) (window buf s e) s base ∙ go (inside buf s e base)
   where
-    go : (t : Bool) → pass_number (pick (not t) (Barred (refused 1 s)) (pass_bytes (window buf s e) s)) ≡ first (line 1 t ∷ bytes_lines (window buf s e))
+    go : (t : Bool) → pass_number (pick (not t) (Err (refused 1 s)) (pass_bytes (window buf s e) s)) ≡ first (line 1 t ∷ bytes_lines (window buf s e))
     go true = bytes_number (window buf s e) s
     go false = refl
 

@@ -1,4 +1,5 @@
 -- What the calls report of an accepted packet's messages is what is there.
+use Rattle.std.specs.Prelude.{Result, Ok, Err}
 use mathlib.Core.Path.{◌≡◌, refl, sym, ap, ◌∙◌}
 use mathlib.Core.List.{List, [], ◌∷◌, ◌++◌}
 use mathlib.Core.Bool.{true, false}
@@ -17,7 +18,6 @@ use Rattle.body.specs.Blocks.{Entry, no_entry, blocks_bytes, message_on, entry_a
 use Rattle.terms.specs.declared.TimeRule.{TimeRule}
 use Rattle.body.specs.declared.Form.{Form}
 use Rattle.body.specs.declared.Message.{Message}
-use Rattle.body.specs.declared.Checked.TheVariants.{Counted}
 use Rattle.body.proofs.Reading.{length_tab}
 use Rattle.body.proofs.Bounds.{message_fits}
 use Rattle.body.proofs.Exactly.{body_of_blocks, body_messages}
@@ -26,12 +26,6 @@ use Rattle.frame.specs.Rules.{message_rule}
 use Rattle.packet.specs.Read.{window, body_checked, pass_window, read_packet, packet_told}
 use Rattle.packet.specs.Messages.{message_count, kth_message, list_answer, list_packet, list_after, starts, lengths, message_answer, message_packet, list_told, message_told}
 use Rattle.packet.specs.declared.Packet.{Packet}
-use Rattle.packet.specs.declared.PacketPass.TheVariants.{Passed}
-use Rattle.packet.specs.declared.PacketRead.{PacketRead}
-use Rattle.packet.specs.declared.PacketRead.TheVariants.{Accepted}
-use Rattle.packet.specs.declared.PacketList.{PacketList}
-use Rattle.packet.specs.declared.PacketList.TheVariants.{Listed, Unlisted}
-use Rattle.packet.specs.declared.PacketMessage.TheVariants.{Given, Withheld}
 use Rattle.packet.proofs.Answers.{in_packet}
 use Rattle.packet.proofs.Own.{accepted_at, accepted_pass}
 use Rattle.promises.specs.Refusals.{reader_refusals}
@@ -41,32 +35,33 @@ use Rattle.promises.proofs.Members.{among_one}
 use Rattle.promises.proofs.BodiesKept.{opens_exactly, body_kept, carried_counted}
 use Rattle.promises.proofs.Keeping.{kept_messages, accepted_exactly}
 use Rattle.promises.proofs.Refusing.{start_recorded}
+use Rattle.terms.specs.declared.Refusal.{Refusal}
 
 -- ---- what the calls say of an accepted packet with n messages
 
-module _ (buf : List ℕ) (s e base : ℕ) (p : Packet) (n : ℕ) (h : read_packet buf s e base ≡ Accepted p) (has : body_checked (window buf s e) ≡ Counted n) where
+module _ (buf : List ℕ) (s e base : ℕ) (p : Packet) (n : ℕ) (h : read_packet buf s e base ≡ Ok p) (has : body_checked (window buf s e) ≡ Ok n) where
   count_is : message_count (window buf s e) ≡ n
   unfolding message_count
   count_is = rw has
 
-  passes : pass_window buf s e base ≡ Passed p.length
+  passes : pass_window buf s e base ≡ Ok p.length
   passes = accepted_pass buf s e base p h
 
-  lists_all : (len₁ len₂ : ℕ) → n ≤ min len₁ len₂ → list_packet buf s e base len₁ len₂ ≡ Listed n
+  lists_all : (len₁ len₂ : ℕ) → n ≤ min len₁ len₂ → list_packet buf s e base len₁ len₂ ≡ Ok n
   unfolding list_packet list_answer
   lists_all len₁ len₂ room = rw (passes, count_is, le-ltb (min len₁ len₂) n room)
 
-  lists_none : (len₁ len₂ : ℕ) → min len₁ len₂ < n → list_packet buf s e base len₁ len₂ ≡ Unlisted (needing n (refused_there 16 s base))
+  lists_none : (len₁ len₂ : ℕ) → min len₁ len₂ < n → list_packet buf s e base len₁ len₂ ≡ Err (needing n (refused_there 16 s base))
   unfolding list_packet list_answer
-  lists_none len₁ len₂ short = rw (passes, count_is, lt-ltb (min len₁ len₂) n short) (ap Unlisted (start_recorded base s 16 n))
+  lists_none len₁ len₂ short = rw (passes, count_is, lt-ltb (min len₁ len₂) n short) (ap Err (start_recorded base s 16 n))
 
-  gives_each : (k : ℕ) → k < n → message_packet buf s e base k ≡ Given (kth_message (window buf s e) k)
+  gives_each : (k : ℕ) → k < n → message_packet buf s e base k ≡ Ok (kth_message (window buf s e) k)
   unfolding message_packet message_answer
   gives_each k more = rw (passes, count_is, lt-leb n k more)
 
-  gives_no_other : (k : ℕ) → n ≤ k → message_packet buf s e base k ≡ Withheld (refused_there 17 s base)
+  gives_no_other : (k : ℕ) → n ≤ k → message_packet buf s e base k ≡ Err (refused_there 17 s base)
   unfolding message_packet message_answer
-  gives_no_other k past = rw (passes, count_is, le-leb n k past) (ap Withheld (start_recorded base s 17 0))
+  gives_no_other k past = rw (passes, count_is, le-leb n k past) (ap Err (start_recorded base s 17 0))
 
 -- ---- lists filled from the front
 
@@ -80,7 +75,7 @@ tab_at (suc n) f d k h = go (dec_le n k) (tab_at n f d k)
     go (no l) before = get_or-append (tab n f) (f n ∷ []) d k (omega (arith, length_tab n f)) ∙ before (omega arith)
 
 -- what a lister leaves in a list, entry by entry
-listed_at : (n : ℕ) (entries : ℕ → ℕ) (old : List ℕ) (r : PacketList) (k : ℕ) → r ≡ Listed n → k < n → get_or (list_after r entries old) k 0 ≡ entries k
+listed_at : (n : ℕ) (entries : ℕ → ℕ) (old : List ℕ) (r : Result ℕ Refusal) (k : ℕ) → r ≡ Ok n → k < n → get_or (list_after r entries old) k 0 ≡ entries k
 unfolding list_after filled
 listed_at n entries old r k q h = rw q (get_or-append (tab n entries) (drop n old) 0 k (omega (arith, length_tab n entries)) ∙ tab_at n entries 0 k h)
 
@@ -119,7 +114,7 @@ ahead_is w form es k =
     λ i. record { time = x.time; id = x.id; start = start i; length = length x.bytes }
 
 -- of an accepted packet whose body is some blocks, the calls report these
-module _ (buf : List ℕ) (s e base : ℕ) (p : Packet) (es : List Entry) (h : read_packet buf s e base ≡ Accepted p)
+module _ (buf : List ℕ) (s e base : ℕ) (p : Packet) (es : List Entry) (h : read_packet buf s e base ≡ Ok p)
     (b : BodyOf (kind_in (window buf s e)) (message_rule (flags_in (window buf s e))) (body_in (window buf s e)) es) where
   abbrev w : List ℕ
   w = window buf s e
@@ -127,7 +122,7 @@ module _ (buf : List ℕ) (s e base : ℕ) (p : Packet) (es : List Entry) (h : r
   abbrev reported : ℕ → Message
   reported = message_for w b.shape.form es
 
-  has_count : body_checked w ≡ Counted (length es)
+  has_count : body_checked w ≡ Ok (length es)
   unfolding fields_in body_checked
   has_count = (body_of_blocks (kind_in w) (message_rule (flags_in w)) (body_in w) es b).0
 
@@ -165,24 +160,24 @@ module _ (buf : List ℕ) (s e base : ℕ) (p : Packet) (es : List Entry) (h : r
               listed_at (length es) (starts w) starts₀ _ k all more ∙ ap (λ (m : Message). m.start) (kth_is k more),
               listed_at (length es) (lengths w) lengths₀ _ k all more ∙ ap (λ (m : Message). m.length) (kth_is k more),
             );
-        given = λ k more. ap message_told (gives_each buf s e base p (length es) h has_count k more ∙ ap Given (kth_is k more));
+        given = λ k more. ap message_told (gives_each buf s e base p (length es) h has_count k more ∙ ap Ok (kth_is k more));
         missing = λ k past. ap message_told (gives_no_other buf s e base p (length es) h has_count k past);
         bytes = bytes_in_buffer;
       }
 
 -- an accepted packet of a type that we open: the messages there, and what each call says of them
-pub messages_there : (buf : List ℕ) (s e base : ℕ) (p : Packet) → Bytes buf → read_packet buf s e base ≡ Accepted p → opens (kind_in (window buf s e)) ≡ true
+pub messages_there : (buf : List ℕ) (s e base : ℕ) (p : Packet) → Bytes buf → read_packet buf s e base ≡ Ok p → opens (kind_in (window buf s e)) ≡ true
     → (es : List Entry) × (b : BodyOf (kind_in (window buf s e)) (message_rule (flags_in (window buf s e))) (body_in (window buf s e)) es)
     × Reports buf s e base es b.shape.form
 messages_there buf s e base p raw h o =
-    let keeps = (accepted_exactly buf raw s e base).0 (ap (λ (x : PacketRead). (packet_told x).refusal.number) h) in
+    let keeps = (accepted_exactly buf raw s e base).0 (ap (λ (x : Result Packet Refusal). (packet_told x).refusal.number) h) in
     let w = window buf s e in
     let (es, kept) = kept_messages buf s e base w (keeps 15 (among_one 15 reader_refusals refl)) ((opens_exactly (kind_in w)).0 o) in
     let b = (body_kept (kind_in w) (flags_in w) (body_in w) es ((opens_exactly (kind_in w)).0 o)).1 kept in
     (es, b, blocks_reported buf s e base p es h b)
 
 -- of any other type: none
-pub carried_none : (buf : List ℕ) (s e base : ℕ) (p : Packet) → read_packet buf s e base ≡ Accepted p → opens (kind_in (window buf s e)) ≡ false
+pub carried_none : (buf : List ℕ) (s e base : ℕ) (p : Packet) → read_packet buf s e base ≡ Ok p → opens (kind_in (window buf s e)) ≡ false
     → ((len₁ len₂ : ℕ) → list_told (list_packet buf s e base len₁ len₂) ≡ listed_told no_refusal 0)
     × ((k : ℕ) → message_told (message_packet buf s e base k) ≡ given_told (refused_there 17 s base) zero_message)
 unfolding fields_in body_checked

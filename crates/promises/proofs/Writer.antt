@@ -1,4 +1,5 @@
 -- What the writer's acceptance says, rule by rule, and that it says no more.
+use Rattle.std.specs.Prelude.{Result, Ok, Err}
 use mathlib.Core.Path.{◌≡◌, refl, ◌∙◌}
 use mathlib.Core.Bool.{Bool, true, false, not, ◌||◌}
 use Prim.Native.Nat.{ℕ, ◌^◌, ◌≤◌, ◌<◌}
@@ -9,8 +10,6 @@ use borrow.Author.Tests.{eqb-true, eqb-false, ltb-true, ltb-false, lt-ltb, le-lt
 use Rattle.units.specs.Choice.{pick}
 use Rattle.units.proofs.Choices.{and_true}
 use Rattle.terms.specs.Refusals.{refused, needing}
-use Rattle.body.specs.declared.Checked.{Checked}
-use Rattle.body.specs.declared.Checked.TheVariants.{Counted, Faulty}
 use Rattle.frame.specs.Header.{secondary_bit}
 use Rattle.frame.specs.Rules.{secondary_time_ok}
 use Rattle.frame.specs.Table.{first, value_lines}
@@ -21,10 +20,9 @@ use Rattle.packet.specs.Read.{contents_checked}
 use Rattle.packet_bytes.specs.Bytes.{packet_bytes}
 use Rattle.packet.proofs.Told.{Says15, given_15}
 use Rattle.packet.specs.Write.{writer_lines, writer_refusal, fitted, write_packet, write_told}
-use Rattle.packet.specs.declared.PacketWrite.{PacketWrite}
-use Rattle.packet.specs.declared.PacketWrite.TheVariants.{Written, Unwritten}
 use Rattle.packet_bytes.proofs.Puts.{length_packet}
 use Rattle.promises.specs.Contents.{Typed, Accepts}
+use Rattle.terms.specs.declared.Refusal.{Refusal}
 
 -- 17, 5 to 9, 12 and 15 have nothing against it
 pub record Writable (c : Contents) : Type 0 where
@@ -33,7 +31,7 @@ pub record Writable (c : Contents) : Type 0 where
   pub values : Valued c.fields.channel c.fields.version c.fields.flags c.fields.kind (contents_length c) (length c.body)
   pub time : secondary_time_ok c.fields.flags c.fields.time ≡ true
   pub count : ℕ
-  pub body : contents_checked c ≡ Counted count
+  pub body : contents_checked c ≡ Ok count
 
 -- ---- 17, 5 to 9 and 12
 
@@ -61,23 +59,23 @@ module _ (c : Contents) where
 
 -- ---- then 15 and 16
 
-refused_number : (n : ℕ) (rest : PacketWrite) → (write_told (pick (not (eqb n 0)) (Unwritten (refused n 0)) rest)).refusal.number ≡ 0
+refused_number : (n : ℕ) (rest : Result ℕ Refusal) → (write_told (pick (not (eqb n 0)) (Err (refused n 0)) rest)).refusal.number ≡ 0
     → (n ≡ 0) × ((write_told rest).refusal.number ≡ 0)
 refused_number n rest z = go (eqb n 0) refl z
   where
-    go : (t : Bool) → eqb n 0 ≡ t → (write_told (pick (not t) (Unwritten (refused n 0)) rest)).refusal.number ≡ 0
+    go : (t : Bool) → eqb n 0 ≡ t → (write_told (pick (not t) (Err (refused n 0)) rest)).refusal.number ≡ 0
         → (n ≡ 0) × ((write_told rest).refusal.number ≡ 0)
     go true q h = (eqb-true n 0 q, h)
     go false q h = absurd (eqb-false n 0 q h)
 
-fitted_says : (x : Checked) (n room : ℕ) → Says15 x → (write_told (fitted x n room)).refusal.number ≡ 0 → (k : ℕ) × (x ≡ Counted k) × (n ≤ room)
+fitted_says : (x : Result ℕ Refusal) (n room : ℕ) → Says15 x → (write_told (fitted x n room)).refusal.number ≡ 0 → (k : ℕ) × (x ≡ Ok k) × (n ≤ room)
 unfolding fitted
-fitted_says (Counted k) n room right z = (k, refl, go (ltb room n) refl z)
+fitted_says (Ok k) n room right z = (k, refl, go (ltb room n) refl z)
   where
-    go : (t : Bool) → ltb room n ≡ t → (write_told (pick t (Unwritten (needing n (refused 16 0))) (Written n))).refusal.number ≡ 0 → n ≤ room
+    go : (t : Bool) → ltb room n ≡ t → (write_told (pick t (Err (needing n (refused 16 0))) (Ok n))).refusal.number ≡ 0 → n ≤ room
     go true q h = absurd (omega (arith, h))
     go false q h = ltb-false room n q
-fitted_says (Faulty r) n room right z = absurd (omega (arith, z, (right r refl).0))
+fitted_says (Err r) n room right z = absurd (omega (arith, z, (right r refl).0))
 
 module _ (c : Contents) (room : ℕ) where
   -- a writing told as 0: the rules hold, and the packet has room
@@ -90,7 +88,7 @@ module _ (c : Contents) (room : ℕ) where
       (record { rtc = s.0; absent = s.1; values = s.2; time = s.3; count = b.0; body = b.1 }, b.2)
 
   -- where they hold and there is room, the packet is written
-  pub writable_written : Writable c → contents_length c ≤ room → write_packet c room ≡ Written (contents_length c)
+  pub writable_written : Writable c → contents_length c ≤ room → write_packet c room ≡ Ok (contents_length c)
   unfolding write_packet fitted
   writable_written r h = rw (refusal_none c r, r.body, le-ltb room (contents_length c) h)
 

@@ -1,4 +1,5 @@
 -- Contents are written exactly when every rule of the writer's holds, and refused by the first that does not: each of its tests says what document 01 says.
+use Rattle.std.specs.Prelude.{Result, Ok, Err}
 use mathlib.Core.Path.{◌≡◌, refl, sym, subst, ◌∙◌}
 use mathlib.Core.List.{List, [], ◌∷◌, ◌++◌}
 use mathlib.Core.Bool.{Bool, true, false, not, false≢true}
@@ -15,8 +16,6 @@ use Rattle.terms.specs.Refusals.{refused, needing, placed}
 use Rattle.terms.specs.Times.{rule_of}
 use Rattle.terms.specs.declared.Refusal.{Refusal}
 use Rattle.terms.proofs.Times.{zero_ok}
-use Rattle.body.specs.declared.Checked.{Checked}
-use Rattle.body.specs.declared.Checked.TheVariants.{Counted, Faulty}
 use Rattle.frame.specs.Header.{secondary_bit, time_format}
 use Rattle.frame.specs.Rules as Rules
 use Rattle.frame.specs.Contents.{Contents, contents_length}
@@ -25,8 +24,6 @@ use Rattle.frame.specs.declared.Fields.{Fields}
 use Rattle.frame.proofs.Tables.{numbered, stage_some, stage_none}
 use Rattle.packet.specs.Read.{contents_checked}
 use Rattle.packet.specs.Write.{in_range, writer_lines, writer_refusal, fitted, write_packet, write_told}
-use Rattle.packet.specs.declared.PacketWrite.{PacketWrite}
-use Rattle.packet.specs.declared.PacketWrite.TheVariants.{Written, Unwritten}
 use Rattle.packet.proofs.Told.{Says15, given_15}
 use Rattle.packet.proofs.Writes.{range_says, range_made}
 use Rattle.promises.specs.Refusals.{OneOf, writer_refusals}
@@ -50,23 +47,23 @@ lines_numbered : (f : Fields) (d : ℕ) → T (numbered (writer_lines f d))
 unfolding writer_lines value_lines
 lines_numbered f d = tt
 
-fitted_number : (x : Checked) (n room : ℕ) → Says15 x
+fitted_number : (x : Result ℕ Refusal) (n room : ℕ) → Says15 x
     → (write_told (fitted x n room)).refusal.number ≡ first (line 15 (body_passes x) ∷ line 16 (leb n room) ∷ [])
 unfolding fitted first
-fitted_number (Counted k) n room right = go (ltb room n) refl
+fitted_number (Ok k) n room right = go (ltb room n) refl
   where
     go : (t : Bool) → ltb room n ≡ t
-        → (write_told (pick t (Unwritten (needing n (refused 16 0))) (Written n))).refusal.number ≡ pick (leb n room) 0 16
+        → (write_told (pick t (Err (needing n (refused 16 0))) (Ok n))).refusal.number ≡ pick (leb n room) 0 16
     go true t = rw (lt-leb n room (ltb-true room n t))
     go false t = rw (le-leb n room (ltb-false room n t))
-fitted_number (Faulty r) n room right = (right r refl).0
+fitted_number (Err r) n room right = (right r refl).0
 
 number_is : (c : Contents) (room : ℕ) → (write_told (write_packet c room)).refusal.number ≡ first (all_lines c room)
 unfolding write_packet writer_refusal
 number_is c room = go (eqb (writer_refusal c.fields (length c.body)) 0) refl
   where
     go : (t : Bool) → eqb (writer_refusal c.fields (length c.body)) 0 ≡ t
-        → (write_told (pick (not t) (Unwritten (refused (writer_refusal c.fields (length c.body)) 0)) (fitted (contents_checked c) (contents_length c) room))).refusal.number
+        → (write_told (pick (not t) (Err (refused (writer_refusal c.fields (length c.body)) 0)) (fitted (contents_checked c) (contents_length c) room))).refusal.number
         ≡ first (all_lines c room)
     go true q =
         fitted_number (contents_checked c) (contents_length c) room (given_15 c)
@@ -155,20 +152,20 @@ abbrev ruled_numbers : List ℕ
 ruled_numbers = 17 ∷ 5 ∷ 6 ∷ 7 ∷ 8 ∷ 9 ∷ 12 ∷ []
 
 -- what the writer may answer
-data Outcome (c : Contents) : PacketWrite → Type 0 where
-  ruled : (n : ℕ) → OneOf n ruled_numbers → Outcome c (Unwritten (refused n 0))
-  faulty : (r : Refusal) → contents_checked c ≡ Faulty r → Outcome c (Unwritten (placed 0 r))
-  short : LengthOf c (contents_length c) → Outcome c (Unwritten (needing (contents_length c) (refused 16 0)))
-  fits : LengthOf c (contents_length c) → Outcome c (Written (contents_length c))
+data Outcome (c : Contents) : Result ℕ Refusal → Type 0 where
+  ruled : (n : ℕ) → OneOf n ruled_numbers → Outcome c (Err (refused n 0))
+  faulty : (r : Refusal) → contents_checked c ≡ Err r → Outcome c (Err (placed 0 r))
+  short : LengthOf c (contents_length c) → Outcome c (Err (needing (contents_length c) (refused 16 0)))
+  fits : LengthOf c (contents_length c) → Outcome c (Ok (contents_length c))
 
-fitted_outcome : (c : Contents) (room : ℕ) → LengthOf c (contents_length c) → (x : Checked) → contents_checked c ≡ x → Outcome c (fitted x (contents_length c) room)
+fitted_outcome : (c : Contents) (room : ℕ) → LengthOf c (contents_length c) → (x : Result ℕ Refusal) → contents_checked c ≡ x → Outcome c (fitted x (contents_length c) room)
 unfolding fitted
-fitted_outcome c room long (Counted k) q = go (ltb room (contents_length c))
+fitted_outcome c room long (Ok k) q = go (ltb room (contents_length c))
   where
-    go : (t : Bool) → Outcome c (pick t (Unwritten (needing (contents_length c) (refused 16 0))) (Written (contents_length c)))
+    go : (t : Bool) → Outcome c (pick t (Err (needing (contents_length c) (refused 16 0))) (Ok (contents_length c)))
     go true = short long
     go false = fits long
-fitted_outcome c room long (Faulty r) q = faulty r q
+fitted_outcome c room long (Err r) q = faulty r q
 
 -- 0, or a number of its table's
 named : (f : Fields) (d : ℕ) → OneOf (writer_refusal f d) (0 ∷ ruled_numbers)
@@ -180,70 +177,70 @@ unfolding write_packet
 outcome c room = go (writer_refusal c.fields (length c.body)) refl (eqb (writer_refusal c.fields (length c.body)) 0) refl
   where
     go : (n : ℕ) → n ≡ writer_refusal c.fields (length c.body) → (t : Bool) → eqb n 0 ≡ t
-        → Outcome c (pick (not t) (Unwritten (refused n 0)) (fitted (contents_checked c) (contents_length c) room))
+        → Outcome c (pick (not t) (Err (refused n 0)) (fitted (contents_checked c) (contents_length c) room))
     go n is true q =
         let v = (refusal_says c (sym is ∙ eqb-true n 0 q)).2 in
         fitted_outcome c room ((lengths_exactly c.fields.kind c.fields.flags (contents_length c) (length c.body)).0 v.lengths_ok) (contents_checked c) refl
     go n is false q = ruled n (rw is (⊎_elim (λ z. absurd (eqb-false n 0 q (is ∙ z))) (λ o. o) (named c.fields (length c.body))))
 
 module _ (c : Contents) where
-  ends : {x : PacketWrite} → Outcome c x → Ends writer_refusals written_told 0 (write_told x)
+  ends : {x : Result ℕ Refusal} → Outcome c x → Ends writer_refusals written_told 0 (write_told x)
   ends (ruled n o) = inr (refused n 0, refl, one_ahead n ruled_numbers (15 ∷ 16 ∷ []) o)
   ends (faulty r q) = inr (placed 0 r, refl, rw (given_15 c r q).0 (among_one 15 writer_refusals refl))
   ends (short long) = inr (needing (contents_length c) (refused 16 0), refl, among_one 16 writer_refusals refl)
   ends (fits long) = inl (contents_length c, refl)
 
-  places : {x : PacketWrite} → Outcome c x → (write_told x).refusal.place ≡ 0
+  places : {x : Result ℕ Refusal} → Outcome c x → (write_told x).refusal.place ≡ 0
   places (ruled n o) = refl
   places (faulty r q) = refl
   places (short long) = refl
   places (fits long) = refl
 
-  unrecorded : {x : PacketWrite} → Outcome c x → (write_told x).refusal.recording_place ≡ 0
+  unrecorded : {x : Result ℕ Refusal} → Outcome c x → (write_told x).refusal.recording_place ≡ 0
   unrecorded (ruled n o) = refl
   unrecorded (faulty r q) = (given_15 c r q).2
   unrecorded (short long) = refl
   unrecorded (fits long) = refl
 
-  rooms : {x : PacketWrite} → Outcome c x → (write_told x).refusal.number ≡ 16 → LengthOf c (write_told x).refusal.room
+  rooms : {x : Result ℕ Refusal} → Outcome c x → (write_told x).refusal.number ≡ 16 → LengthOf c (write_told x).refusal.room
   rooms (ruled n o) e = absurd (false≢true (one_among 16 ruled_numbers (rw e at o)))
   rooms (faulty r q) e = absurd (omega (arith, (given_15 c r q).0, e))
   rooms (short long) e = long
   rooms (fits long) e = absurd (omega (arith, e))
 
-  no_rooms : {x : PacketWrite} → Outcome c x → (write_told x).refusal.number ≢ 16 → (write_told x).refusal.room ≡ 0
+  no_rooms : {x : Result ℕ Refusal} → Outcome c x → (write_told x).refusal.number ≢ 16 → (write_told x).refusal.room ≡ 0
   no_rooms (ruled n o) e = refl
   no_rooms (faulty r q) e = (given_15 c r q).1
   no_rooms (short long) e = absurd (e refl)
   no_rooms (fits long) e = refl
 
-  reasons : Bytes c.body → {x : PacketWrite} → Outcome c x → (write_told x).refusal.number ≡ 15
+  reasons : Bytes c.body → {x : Result ℕ Refusal} → Outcome c x → (write_told x).refusal.number ≡ 15
       → (at : ℕ) × BodyAtFault c.fields.kind c.fields.flags c.body at (write_told x).refusal.reason
   reasons raw (ruled n o) e = absurd (false≢true (one_among 15 ruled_numbers (rw e at o)))
   reasons raw (faulty r q) e = (r.place, fault_kept c.fields.kind c.fields.flags c.body r raw q)
   reasons raw (short long) e = absurd (omega (arith, e))
   reasons raw (fits long) e = absurd (omega (arith, e))
 
-  no_reasons : {x : PacketWrite} → Outcome c x → (write_told x).refusal.number ≢ 15 → (write_told x).refusal.reason ≡ 0
+  no_reasons : {x : Result ℕ Refusal} → Outcome c x → (write_told x).refusal.number ≢ 15 → (write_told x).refusal.reason ≡ 0
   no_reasons (ruled n o) e = refl
   no_reasons (faulty r q) e = absurd (e (given_15 c r q).0)
   no_reasons (short long) e = refl
   no_reasons (fits long) e = refl
 
-  long_told : {x : PacketWrite} → Outcome c x → (write_told x).refusal.number ≡ 0 → LengthOf c (write_told x).length × ((write_told x).length ≡ contents_length c)
+  long_told : {x : Result ℕ Refusal} → Outcome c x → (write_told x).refusal.number ≡ 0 → LengthOf c (write_told x).length × ((write_told x).length ≡ contents_length c)
   long_told (ruled n o) e = absurd (false≢true (one_among 0 ruled_numbers (rw e at o)))
   long_told (faulty r q) e = absurd (omega (arith, (given_15 c r q).0, e))
   long_told (short long) e = absurd (omega (arith, e))
   long_told (fits long) e = (long, refl)
 
-  written : {x : PacketWrite} → Outcome c x → (write_told x).refusal.number ≡ 0 → x ≡ Written (write_told x).length
+  written : {x : Result ℕ Refusal} → Outcome c x → (write_told x).refusal.number ≡ 0 → x ≡ Ok (write_told x).length
   written (ruled n o) e = absurd (false≢true (one_among 0 ruled_numbers (rw e at o)))
   written (faulty r q) e = absurd (omega (arith, (given_15 c r q).0, e))
   written (short long) e = absurd (omega (arith, e))
   written (fits long) e = refl
 
   module _ (room : ℕ) where
-    pub written_is : (write_told (write_packet c room)).refusal.number ≡ 0 → write_packet c room ≡ Written (write_told (write_packet c room)).length
+    pub written_is : (write_told (write_packet c room)).refusal.number ≡ 0 → write_packet c room ≡ Ok (write_told (write_packet c room)).length
     written_is = written (outcome c room)
 
     pub write_ends : Ends writer_refusals written_told 0 (write_told (write_packet c room))

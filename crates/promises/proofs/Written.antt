@@ -1,4 +1,5 @@
 -- What the writer writes passes every test of the reader, and reads back as given, whatever stands behind it.
+use Rattle.std.specs.Prelude.{Ok}
 use mathlib.Core.Path.{◌≡◌, refl, sym, ap, ◌∙◌}
 use mathlib.Core.List.{List, [], ◌++◌, append_assoc, append-nil}
 use Prim.Native.Nat.{ℕ, ◌+◌, ◌-◌, ◌≤◌}
@@ -10,7 +11,6 @@ use Rattle.units.specs.Units.{Bytes, part, num}
 use Rattle.frame.specs.Sums.{data_sum}
 use Rattle.units.proofs.Numbers.{bytes_append, length_bytes_of, zeros_replicate}
 use Rattle.units.proofs.Parts.{part_at, part_part}
-use Rattle.body.specs.declared.Checked.TheVariants.{Counted}
 use Rattle.frame.specs.Header.{channel_in, packet_length, data_length, version_in, sequence_in, flags_in, kind_in, rtc_in, time_in, sum_code, sum_length, secondary_length, body_at, filler_for, secondary_in, body_in, filler_in, body_and_filler_in, data_sum_in, fields_in}
 use Rattle.frame.specs.Table.{first, frame_lines}
 use Rattle.frame.specs.inner.Lengths.{Sound}
@@ -20,7 +20,6 @@ use Rattle.packet_bytes.specs.Bytes.{head_bytes, secondary_bytes, body_and_fille
 use Rattle.packet_bytes.proofs.Puts.{length_head, length_secondary, length_filled}
 use Rattle.packet.specs.Read.{window, packet_in, body_checked, read_packet}
 use Rattle.packet.specs.declared.Packet.{Packet}
-use Rattle.packet.specs.declared.PacketRead.TheVariants.{Accepted}
 use Rattle.packet.proofs.Passes.{Inside, window_ends}
 use Rattle.packet.proofs.Own.{at_accepted, checked_front}
 use Rattle.promises.specs.Contents.{Typed, Accepts, contents_of}
@@ -194,7 +193,7 @@ module _ (c : Contents) (t : Typed c) (r : Writable c) where
       }
 
   -- 15
-  pub written_checked : body_checked (packet_bytes c) ≡ Counted r.count
+  pub written_checked : body_checked (packet_bytes c) ≡ Ok r.count
   unfolding body_checked
   written_checked = rw (written_body, written_fields) r.body
 
@@ -213,7 +212,7 @@ module _ (c : Contents) (a : Accepts c) (buf : List ℕ) (s e base : ℕ) (withi
       own_bytes_lem what front (packet_bytes c) (window buf s e) (written_sound c a.typed r)
       (rw n (take-take (length (packet_bytes c)) (e - s) (drop s buf) (omega arith) ∙ same ∙ sym (take-length (packet_bytes c))))
 
-  pub read_written : (p : Packet) × (read_packet buf s e base ≡ Accepted p) × (contents_of buf p ≡ c) × (p.length ≡ length (packet_bytes c))
+  pub read_written : (p : Packet) × (read_packet buf s e base ≡ Ok p) × (contents_of buf p ≡ c) × (p.length ≡ length (packet_bytes c))
   unfolding packet_in
   read_written =
       let r = accepts_writable c a in

@@ -1,14 +1,14 @@
 -- What the builder's steps answer (document 01, "Builder", and 1, 15, 16 and 17 of its table), in its words and its order, and what each leaves in
 -- its buffer; proved in proofs/Building.antt (building). No test of the builder's is cited.
-use Rattle.std.specs.Prelude.{◌≡◌, List, [], ◌∷◌, ◌++◌, ◌⊎◌, ◌≢◌, ℕ, ◌+◌, ◌/◌, ◌%◌, ◌^◌, ◌≤◌, ◌<◌, ltb, length, take, drop}
+use Rattle.std.specs.Prelude.{◌≡◌, List, [], ◌∷◌, ◌++◌, ◌⊎◌, ◌≢◌, ℕ, ◌+◌, ◌/◌, ◌%◌, ◌^◌, ◌≤◌, ◌<◌, ltb, length, take, drop, Result}
 use Rattle.units.specs.Units.{bytes_of}
 use Rattle.units.specs.Choice.{pick}
 use Rattle.builder.specs.Build.{open_step, add_step, close_step, StepTold, step_told}
 use Rattle.builder.specs.declared.Draft.{Draft}
-use Rattle.builder.specs.declared.Step.{Step}
 use Rattle.promises.specs.Numbers.{bit6, format, InFormat}
 use Rattle.promises.specs.Words.{pad}
 use Rattle.promises.specs.Calls.{Open, Add, Close}
+use Rattle.terms.specs.declared.Refusal.{Refusal}
 
 -- what opening takes: 0x30 with a time rule, 0x50 with one or none. Rules: 1 the counter, 2 Chapter 4, 3 IEEE 1588, 4 extended counter; 0 none, 5 the
 -- reserved time format
@@ -101,14 +101,14 @@ pub record Building : Type 0 where
   -- What each step leaves in its buffer, by what its call promises (specs/Calls.antt); a refused one leaves it as it was (Demand1.buffer_untouched).
 
   -- opening: "writing the channel word, counter 0", bit 31 set in 0x50 where times are stored; behind it all as it was
-  pub open_bytes : (d : Draft) (buf₀ : List ℕ) (kind rule : ℕ) (r : Step) (buf₁ : List ℕ) → Open d buf₀ kind rule r buf₁ → Opens kind rule → 4 ≤ length buf₀
+  pub open_bytes : (d : Draft) (buf₀ : List ℕ) (kind rule : ℕ) (r : Result Draft (Refusal × Draft)) (buf₁ : List ℕ) → Open d buf₀ kind rule r buf₁ → Opens kind rule → 4 ≤ length buf₀
       → ((kind ≡ 0x50) × (1 ≤ rule) → buf₁ ≡ 0x00 ∷ 0x00 ∷ 0x00 ∷ 0x80 ∷ drop 4 buf₀)
       × ((kind ≡ 0x30) ⊎ (rule ≡ 0) → buf₁ ≡ 0x00 ∷ 0x00 ∷ 0x00 ∷ 0x00 ∷ drop 4 buf₀)
   -- adding: the block behind the used bytes, and all else as it was
-  pub add_bytes : (d : Draft) (buf₀ : List ℕ) (time upper : ℕ) (bytes : List ℕ) (r : Step) (buf₁ : List ℕ) → Add d buf₀ time upper bytes r buf₁
+  pub add_bytes : (d : Draft) (buf₀ : List ℕ) (time upper : ℕ) (bytes : List ℕ) (r : Result Draft (Refusal × Draft)) (buf₁ : List ℕ) → Add d buf₀ time upper bytes r buf₁
       → Fitting d (length buf₀) time (length bytes)
       → buf₁ ≡ take d.used buf₀ ++ (block_of d time upper bytes ++ drop (grown_to d (length bytes)) buf₀)
   -- closing: "writing the counter in 0x30, nothing in 0x50": the number of blocks in bytes 0 and 1, low byte first, and all else as it was
-  pub close_bytes : (d : Draft) (buf₀ : List ℕ) (r : Step) (buf₁ : List ℕ) → Close d buf₀ r buf₁ → SoundDraft d (length buf₀) → d.used ≢ 4
+  pub close_bytes : (d : Draft) (buf₀ : List ℕ) (r : Result Draft (Refusal × Draft)) (buf₁ : List ℕ) → Close d buf₀ r buf₁ → SoundDraft d (length buf₀) → d.used ≢ 4
       → (d.kind ≡ 0x30 → buf₁ ≡ d.blocks % 256 ∷ d.blocks / 256 ∷ drop 2 buf₀)
       × (d.kind ≡ 0x50 → buf₁ ≡ buf₀)

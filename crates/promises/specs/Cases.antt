@@ -1,16 +1,17 @@
 -- The starred cases of document 01, "Both sides of the line", over a single list; and below them what the examples are about (proofs/Examples.antt).
-use Rattle.std.specs.Prelude.{◌≡◌, List, [], ◌∷◌, ◌++◌, ℕ, ◌+◌, ◌*◌, ◌^◌, set, replicate}
+use Rattle.std.specs.Prelude.{◌≡◌, List, [], ◌∷◌, ◌++◌, ℕ, ◌+◌, ◌*◌, ◌^◌, set, replicate, Result}
 use Rattle.units.specs.Units.{splice, field, bytes_of}
 use Rattle.terms.specs.Refusals.{refused, no_refusal}
 use Rattle.body.specs.Blocks.{block_bytes}
 use Rattle.builder.specs.Build.{form_of, fresh_draft, open_step, open_word, add_step, entry_of, buf_after, step_told}
-use Rattle.builder.specs.declared.Step.{Step}
 use Rattle.packet.specs.Read.{part_at, read_packet, PacketTold, packet_told}
 use Rattle.frame.specs.Contents.{Contents}
 use Rattle.packet_bytes.specs.Bytes.{packet_bytes}
 use Rattle.packet.specs.Write.{write_packet, WriteTold, write_told}
 use Rattle.promises.specs.Contents.{written}
 use Rattle.promises.specs.Endings.{zero_packet, refused_there}
+use Rattle.builder.specs.declared.Draft.{Draft}
+use Rattle.terms.specs.declared.Refusal.{Refusal}
 
 -- a case: a window and its base, and what the reader tells; contents, an output of `room` bytes, and what the writer tells; or bytes and the sum in
 -- their secondary header
@@ -152,13 +153,13 @@ stamped_contents =
 abbrev pub block : List ℕ
 block = 0x41 ∷ 0x42 ∷ 0x43 ∷ []
 
-unfoldable pub step_opened : Step
+unfoldable pub step_opened : Result Draft (Refusal × Draft)
 step_opened = open_step fresh_draft 0x50 0 12
 
 unfoldable pub buffer_opened : List ℕ
 buffer_opened = buf_after step_opened (replicate 12 0xEE) 0 (bytes_of 4 (open_word 0x50 0))
 
-unfoldable pub step_added : Step
+unfoldable pub step_added : Result Draft (Refusal × Draft)
 step_added = add_step (step_told step_opened).draft 12 0 3
 
 unfoldable pub buffer_added : List ℕ

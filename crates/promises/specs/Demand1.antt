@@ -1,20 +1,19 @@
 -- Demand 1, sentence by sentence; proved in proofs/Demand1.antt (demand_1).
-use Rattle.std.specs.Prelude.{◌≡◌, List, ◌⊎◌, ◌≢◌, ◌↔◌, ℕ, ◌+◌, ◌≤◌, ◌<◌, length, drop}
+use Rattle.std.specs.Prelude.{◌≡◌, List, ◌⊎◌, ◌≢◌, ◌↔◌, ℕ, ◌+◌, ◌≤◌, ◌<◌, length, drop, Result}
 use Rattle.units.specs.Units.{Bytes, part}
 use Rattle.builder.specs.Build.{buf_after, step_told}
-use Rattle.builder.specs.declared.Step.{Step}
 use Rattle.packet.specs.Read.{window, read_packet, packet_told}
 use Rattle.terms.specs.Refusals.{no_refusal}
 use Rattle.packet.specs.Messages.{list_packet, list_after, starts, lengths, message_packet, list_told, entries, message_told}
 use Rattle.packet.specs.Write.{out_after, write_told}
 use Rattle.packet.specs.declared.Packet.{Packet}
-use Rattle.packet.specs.declared.PacketList.{PacketList}
-use Rattle.packet.specs.declared.PacketWrite.{PacketWrite}
 use Rattle.recording.specs.Reading.{read_recording}
 use Rattle.promises.specs.Handed.{Within, HandsOut}
 use Rattle.promises.specs.Refusals.{reader_refusals, lister_refusals, message_refusals}
 use Rattle.promises.specs.Bodies.{MessagesKept, BodyAtFault}
 use Rattle.promises.specs.Endings.{FromTable, zero_packet, zero_message, Ends, read_told, listed_told, given_told, refused_there, Placed}
+use Rattle.builder.specs.declared.Draft.{Draft}
+use Rattle.terms.specs.declared.Refusal.{Refusal}
 
 -- the three calls on the packet at `start` say the same of two buffers, with these ends and one base; the lists' entries too, whatever they held before
 pub record Alike (start base : ℕ) (a : List ℕ) (end : ℕ) (b : List ℕ) (end' : ℕ) : Type 0 where
@@ -27,7 +26,7 @@ pub record Alike (start base : ℕ) (a : List ℕ) (end : ℕ) (b : List ℕ) (e
   pub message : (number : ℕ) → message_told (message_packet a start end base number) ≡ message_told (message_packet b start end' base number)
 
 -- a list after the lister: what stands past the count told is as it was, and so is its length
-pub record ListKept (r : PacketList) (values : ℕ → ℕ) (old : List ℕ) : Type 0 where
+pub record ListKept (r : Result ℕ Refusal) (values : ℕ → ℕ) (old : List ℕ) : Type 0 where
   pub past : drop (list_told r).count (list_after r values old) ≡ drop (list_told r).count old
   pub long : length (list_after r values old) ≡ length old
 
@@ -77,6 +76,6 @@ pub record Demand1 : Type 0 where
       → ListKept (list_packet buf start end base (length starts₀) (length lengths₀)) (starts (window buf start end)) starts₀
       × ListKept (list_packet buf start end base (length starts₀) (length lengths₀)) (lengths (window buf start end)) lengths₀
   -- "a refused call leaves all lent memory untouched": the lister's lists, the writer's output, the builder's buffer at each step
-  pub lists_untouched : (r : PacketList) → (list_told r).refusal.number ≢ 0 → (values : ℕ → ℕ) (old : List ℕ) → list_after r values old ≡ old
-  pub output_untouched : (r : PacketWrite) → (write_told r).refusal.number ≢ 0 → (old bytes : List ℕ) → out_after r old bytes ≡ old
-  pub buffer_untouched : (r : Step) → (step_told r).refusal.number ≢ 0 → (old : List ℕ) (at : ℕ) (bytes : List ℕ) → buf_after r old at bytes ≡ old
+  pub lists_untouched : (r : Result ℕ Refusal) → (list_told r).refusal.number ≢ 0 → (values : ℕ → ℕ) (old : List ℕ) → list_after r values old ≡ old
+  pub output_untouched : (r : Result ℕ Refusal) → (write_told r).refusal.number ≢ 0 → (old bytes : List ℕ) → out_after r old bytes ≡ old
+  pub buffer_untouched : (r : Result Draft (Refusal × Draft)) → (step_told r).refusal.number ≢ 0 → (old : List ℕ) (at : ℕ) (bytes : List ℕ) → buf_after r old at bytes ≡ old

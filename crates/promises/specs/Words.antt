@@ -1,6 +1,6 @@
 -- What the words mean that the promises are written in: of each definition that they share with the contracts of the code, and that no other promise is
 -- about, a sentence that says it without looking at it. Proved in proofs/Words.antt (words).
-use Rattle.std.specs.Prelude.{◌≡◌, List, [], ◌∷◌, ◌++◌, true, false, ◌↔◌, ℕ, ◌+◌, ◌-◌, ◌*◌, ◌/◌, ◌%◌, ◌≤◌, ◌<◌, length, take, drop, get_or, replicate}
+use Rattle.std.specs.Prelude.{◌≡◌, List, [], ◌∷◌, ◌++◌, true, false, ◌↔◌, ℕ, ◌+◌, ◌-◌, ◌*◌, ◌/◌, ◌%◌, ◌≤◌, ◌<◌, length, take, drop, get_or, replicate, Ok, Err}
 use Rattle.units.specs.Units.{Bytes, part, splice, field, bytes_of, sum_units}
 use Rattle.units.specs.Choice.{pick}
 use Rattle.terms.specs.Refusals.{refused, no_refusal, needing}
@@ -9,11 +9,9 @@ use Rattle.body.specs.Blocks.{Entry, block_bytes, blocks_bytes, message_on}
 use Rattle.body.specs.declared.Form.{Form}
 use Rattle.body.specs.declared.Form.TheVariants.{Stamped, Plain}
 use Rattle.body.specs.declared.Message.{Message}
-use Rattle.body.specs.declared.Checked.TheVariants.{Counted, Faulty}
 use Rattle.body.specs.Answers.{checked_told}
-use Rattle.builder.specs.Build.{fresh_draft, step_told}
+use Rattle.builder.specs.Build.{denied, fresh_draft, step_told}
 use Rattle.builder.specs.declared.Draft.{Draft}
-use Rattle.builder.specs.declared.Step.TheVariants.{Done, Denied}
 use Rattle.frame.specs.Sums.{sum_width}
 use Rattle.frame.specs.Header.{byte}
 use Rattle.frame.specs.Contents.{contents}
@@ -22,10 +20,6 @@ use Rattle.packet.specs.Read.{window, part_at, packet_told}
 use Rattle.packet.specs.Messages.{list_told, message_told}
 use Rattle.packet.specs.Write.{write_told}
 use Rattle.packet.specs.declared.Packet.{Packet}
-use Rattle.packet.specs.declared.PacketRead.TheVariants.{Accepted, Refused}
-use Rattle.packet.specs.declared.PacketList.TheVariants.{Listed, Unlisted}
-use Rattle.packet.specs.declared.PacketMessage.TheVariants.{Given, Withheld}
-use Rattle.packet.specs.declared.PacketWrite.TheVariants.{Written, Unwritten}
 use Rattle.promises.specs.Endings.{zero_packet, zero_message}
 
 -- one zero pad byte if n is odd
@@ -81,18 +75,18 @@ pub record Words : Type 1 where
   pub none_is : no_refusal ≡ record { number = 0; place = 0; room = 0; reason = 0; recording_place = 0 }
   -- ---- what is told of each answer: the value and no refusal, or the refusal as it is and zeros
 
-  pub packet_told_lem : (p : Packet) → packet_told (Accepted p) ≡ record { refusal = no_refusal; packet = p }
-  pub packet_not_told : (r : Refusal) → packet_told (Refused r) ≡ record { refusal = r; packet = zero_packet }
-  pub list_told_lem : (n : ℕ) → list_told (Listed n) ≡ record { refusal = no_refusal; count = n }
-  pub list_not_told : (r : Refusal) → list_told (Unlisted r) ≡ record { refusal = r; count = 0 }
-  pub message_told_lem : (m : Message) → message_told (Given m) ≡ record { refusal = no_refusal; message = m }
-  pub message_not_told : (r : Refusal) → message_told (Withheld r) ≡ record { refusal = r; message = zero_message }
-  pub write_told_lem : (n : ℕ) → write_told (Written n) ≡ record { refusal = no_refusal; length = n }
-  pub write_not_told : (r : Refusal) → write_told (Unwritten r) ≡ record { refusal = r; length = 0 }
-  pub step_told_lem : (d : Draft) → step_told (Done d) ≡ record { refusal = no_refusal; draft = d }
-  pub step_not_told : (r : Refusal) (d : Draft) → step_told (Denied r d) ≡ record { refusal = r; draft = d }
-  pub checked_told_lem : (n : ℕ) → checked_told (Counted n) ≡ record { refusal = no_refusal; count = n }
-  pub checked_not_told : (r : Refusal) → checked_told (Faulty r) ≡ record { refusal = r; count = 0 }
+  pub packet_told_lem : (p : Packet) → packet_told (Ok p) ≡ record { refusal = no_refusal; packet = p }
+  pub packet_not_told : (r : Refusal) → packet_told (Err r) ≡ record { refusal = r; packet = zero_packet }
+  pub list_told_lem : (n : ℕ) → list_told (Ok n) ≡ record { refusal = no_refusal; count = n }
+  pub list_not_told : (r : Refusal) → list_told (Err r) ≡ record { refusal = r; count = 0 }
+  pub message_told_lem : (m : Message) → message_told (Ok m) ≡ record { refusal = no_refusal; message = m }
+  pub message_not_told : (r : Refusal) → message_told (Err r) ≡ record { refusal = r; message = zero_message }
+  pub write_told_lem : (n : ℕ) → write_told (Ok n) ≡ record { refusal = no_refusal; length = n }
+  pub write_not_told : (r : Refusal) → write_told (Err r) ≡ record { refusal = r; length = 0 }
+  pub step_told_lem : (d : Draft) → step_told (Ok d) ≡ record { refusal = no_refusal; draft = d }
+  pub step_not_told : (r : Refusal) (d : Draft) → step_told (denied r d) ≡ record { refusal = r; draft = d }
+  pub checked_told_lem : (n : ℕ) → checked_told (Ok n) ≡ record { refusal = no_refusal; count = n }
+  pub checked_not_told : (r : Refusal) → checked_told (Err r) ≡ record { refusal = r; count = 0 }
   -- ---- contents, and a fresh state
 
   pub contents_are : (f : Fields) (body : List ℕ) → contents f body ≡ record { fields = f; body = body }

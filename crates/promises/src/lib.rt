@@ -10,15 +10,14 @@ ghost use Rattle.frame.specs.Contents.{contents};
 ghost use Rattle.promises.specs.Contents.{Typed};
 ghost use Rattle.promises.specs.Calls.{ReadPacket, ListMessages, GiveMessage, WritePacket, ReadRecording, Fresh, Open, Add, Close};
 
-use builder::{Draft, Step};
+use body::Message;
+use builder::Draft;
 use frame::Fields;
-use packet::{
-    PacketList, PacketMessage, PacketRead, PacketWrite, list_messages, message, read_packet,
-    write_packet,
-};
+use packet::{Packet, list_messages, message, read_packet, write_packet};
 use recording::{Recording, read_recording};
+use terms::Refusal;
 
-pub fn reads_packet(buf: &[u8], start: usize, end: usize, base: u64) -> PacketRead
+pub fn reads_packet(buf: &[u8], start: usize, end: usize, base: u64) -> Result<Packet, Refusal>
     ensures read_packet { ReadPacket buf.now start end base result }
     ensures bytes { Bytes buf.now }
 {
@@ -32,7 +31,7 @@ pub fn lists_messages(
     base: u64,
     starts: &mut [u32],
     lengths: &mut [u32],
-) -> PacketList
+) -> Result<usize, Refusal>
     ensures list_messages { ListMessages buf.now start end base starts.old lengths.old result starts.new lengths.new }
     ensures bytes { Bytes buf.now }
 {
@@ -45,7 +44,7 @@ pub fn gives_message(
     end: usize,
     base: u64,
     number: usize,
-) -> PacketMessage
+) -> Result<Message, Refusal>
     ensures give_message { GiveMessage buf.now start end base number result }
     ensures bytes { Bytes buf.now }
 {
@@ -57,7 +56,7 @@ fn hold_types(channel: u16, version: u8, sequence: u8, flags: u8, kind: u8, rtc:
     ensures { (channel < 2 ^ 16) × (version < 2 ^ 8) × (sequence < 2 ^ 8) × (flags < 2 ^ 8) × (kind < 2 ^ 8) × (rtc < 2 ^ 64) × (time < 2 ^ 64) }
 {}
 
-pub fn writes_packet(fields: Fields, body: &[u8], out: &mut [u8]) -> PacketWrite
+pub fn writes_packet(fields: Fields, body: &[u8], out: &mut [u8]) -> Result<usize, Refusal>
     ensures write_packet { WritePacket fields body.now out.old result out.new }
     ensures typed { Typed (contents fields body.now) }
 {
@@ -86,20 +85,31 @@ pub fn starts_fresh() -> Draft
     Draft::fresh()
 }
 
-pub fn opens_body(draft: Draft, buf: &mut [u8], kind: u8, rule: u8) -> Step
+pub fn opens_body(
+    draft: Draft,
+    buf: &mut [u8],
+    kind: u8,
+    rule: u8,
+) -> Result<Draft, (Refusal, Draft)>
     ensures { Open draft buf.old kind rule result buf.new }
 {
     draft.open(buf, kind, rule)
 }
 
-pub fn adds_block(draft: Draft, buf: &mut [u8], time: u64, upper: u16, bytes: &[u8]) -> Step
+pub fn adds_block(
+    draft: Draft,
+    buf: &mut [u8],
+    time: u64,
+    upper: u16,
+    bytes: &[u8],
+) -> Result<Draft, (Refusal, Draft)>
     ensures add { Add draft buf.old time upper bytes.now result buf.new }
     ensures time_bound { (time < 2 ^ 64) × (upper < 2 ^ 16) }
 {
     draft.add(buf, time, upper, bytes)
 }
 
-pub fn closes_body(draft: Draft, buf: &mut [u8]) -> Step
+pub fn closes_body(draft: Draft, buf: &mut [u8]) -> Result<Draft, (Refusal, Draft)>
     ensures { Close draft buf.old result buf.new }
 {
     draft.close(buf)

@@ -1,4 +1,5 @@
 -- The laws of reading a recording from a place on, and of the loop that counts its packets.
+use Rattle.std.specs.Prelude.{Result, Ok, Err}
 use mathlib.Core.Path.{◌≡◌, refl, sym, ap, ◌∙◌}
 use mathlib.Core.List.{List, ◌++◌}
 use mathlib.Core.Bool.{Bool, true, false}
@@ -13,9 +14,6 @@ use Rattle.terms.specs.Refusals.{refused, no_refusal, recorded}
 use Rattle.terms.specs.declared.Refusal.{Refusal}
 use Rattle.packet.specs.Read.{inside, window, packet_in, pass_bytes, pass_window, read_packet}
 use Rattle.packet.specs.declared.Packet.{Packet}
-use Rattle.packet.specs.declared.PacketRead.{PacketRead}
-use Rattle.packet.specs.declared.PacketRead.TheVariants.{Accepted, Refused}
-use Rattle.packet.specs.declared.PacketPass.TheVariants.{Passed, Barred}
 use Rattle.packet.proofs.Passes.{Inside, inside_says, inside_made, window_ends, bytes_passed, pass_in, pass_inside, read_passed, read_barred}
 use Rattle.packet.proofs.Own.{packet_in_length, accepted_fits}
 use Rattle.recording.specs.Reading.{Reading, stopped, ahead, onward, read_from, reading, read_recording}
@@ -23,9 +21,9 @@ use Rattle.recording.specs.declared.Recording.{Recording}
 
 -- ---- reading from a place on
 
-onward_same : (x : PacketRead) (at base : ℕ) (f g : Packet → Reading) → ((p : Packet) → x ≡ Accepted p → f p ≡ g p) → onward x at base f ≡ onward x at base g
-onward_same (Accepted p) at base f g h = ap (λ (r : Reading). ahead p r) (h p refl)
-onward_same (Refused r) at base f g h = refl
+onward_same : (x : Result Packet Refusal) (at base : ℕ) (f g : Packet → Reading) → ((p : Packet) → x ≡ Ok p → f p ≡ g p) → onward x at base f ≡ onward x at base g
+onward_same (Ok p) at base f g h = ap (λ (r : Reading). ahead p r) (h p refl)
+onward_same (Err r) at base f g h = refl
 
 -- as many turns as there are bytes ahead are enough: more give the same
 pub turns_enough : (m n : ℕ) (buf : List ℕ) (at end base : ℕ) → end - at ≤ m → end - at ≤ n → read_from m buf at end base ≡ read_from n buf at end base
@@ -60,14 +58,14 @@ module _ (buf : List ℕ) (at end base : ℕ) where
   unfolding read_from
   from_end h = from_step ∙ rw (le-leb end at h)
 
-  pub from_on : (p : Packet) → at < end → read_packet buf at end base ≡ Accepted p → from buf at end base ≡ ahead p (from buf (at + p.length) end (base + p.length))
+  pub from_on : (p : Packet) → at < end → read_packet buf at end base ≡ Ok p → from buf at end base ≡ ahead p (from buf (at + p.length) end (base + p.length))
   unfolding read_from
   from_on p h q =
       let k = accepted_fits buf at end base p q in
       from_step ∙ rw (lt-leb end at h, q)
       (ap (λ (r : Reading). ahead p r) (turns_enough (end - at) (end - (at + p.length)) buf (at + p.length) end (base + p.length) (omega arith) (omega arith)))
 
-  pub from_stops : (r : Refusal) → at < end → read_packet buf at end base ≡ Refused r → from buf at end base ≡ stopped at base r
+  pub from_stops : (r : Refusal) → at < end → read_packet buf at end base ≡ Err r → from buf at end base ≡ stopped at base r
   unfolding read_from
   from_stops r h q = from_step ∙ rw (lt-leb end at h, q)
 
@@ -133,7 +131,7 @@ module _ (buf : List ℕ) (start end base : ℕ) where
     read_here : pass_window buf at end here ≡ pass_bytes (window buf at end) at
     read_here = pass_inside buf at end here inside_here
 
-    tally_on : (p : Packet) → at < end → read_packet buf at end here ≡ Accepted p → Tally buf start end base (n + 1) (at + p.length)
+    tally_on : (p : Packet) → at < end → read_packet buf at end here ≡ Ok p → Tally buf start end base (n + 1) (at + p.length)
     tally_on p h q =
         let k = accepted_fits buf at end here p q in
         let next : base + (at - start) + p.length ≡ base + (at + p.length - start) = omega (arith, c.fewer) in
@@ -149,7 +147,7 @@ module _ (buf : List ℕ) (start end base : ℕ) where
         }
 
     -- a packet that passes, by its length
-    pub tally_passed : (p : ℕ) → at < end → Passed p ≡ pass_bytes (window buf at end) at
+    pub tally_passed : (p : ℕ) → at < end → Ok p ≡ pass_bytes (window buf at end) at
         → Tally buf start end base (n + 1) (at + p) × (at < at + p) × (at + p ≤ end)
     tally_passed p h e =
         let q = packet_in (window buf at end) at here in
@@ -159,7 +157,7 @@ module _ (buf : List ℕ) (start end base : ℕ) where
         rw l (tally_on q h a, omega (arith, k.some), k.within)
 
     -- one that is barred: b is what the tests said, r the code's refusal
-    pub tally_stops : (b r : Refusal) → at < end → Barred b ≡ pass_bytes (window buf at end) at → r ≡ recorded base start b
+    pub tally_stops : (b r : Refusal) → at < end → Err b ≡ pass_bytes (window buf at end) at → r ≡ recorded base start b
         → record { accepted = n; reached = at; recording_reached = here; refusal = r } ≡ read_recording buf start end base
     tally_stops b r h e q =
         let place = pass_in (window buf at end) at b (sym e) in
@@ -175,7 +173,7 @@ module _ (buf : List ℕ) (start end base : ℕ) where
     pub tally_reach : (place : ℕ) → place ≤ end → base + (place - start) < 2 ^ 64
     tally_reach place h = omega (arith, h, c.inside.fits)
 
-    pub tally_barred : (b : Refusal) → Barred b ≡ pass_bytes (window buf at end) at → (start ≤ b.place) × (base + (b.place - start) < 2 ^ 64)
+    pub tally_barred : (b : Refusal) → Err b ≡ pass_bytes (window buf at end) at → (start ≤ b.place) × (base + (b.place - start) < 2 ^ 64)
     tally_barred b e =
         let place = pass_in (window buf at end) at b (sym e) in
         (omega (arith, place.0, c.fewer), tally_reach b.place (omega (arith, place.1, tally_ends)))

@@ -1,12 +1,10 @@
 -- The recording reader (document 01, "Recording"; its places in the recording, document 02 §9).
-use Rattle.std.specs.Prelude.{List, [], ◌∷◌, not, ℕ, zero, suc, ◌+◌, ◌-◌, length, leb}
+use Rattle.std.specs.Prelude.{List, [], ◌∷◌, not, ℕ, zero, suc, ◌+◌, ◌-◌, length, leb, Result, Ok, Err}
 use Rattle.units.specs.Choice.{pick}
 use Rattle.terms.specs.Refusals.{refused, no_refusal, recorded}
 use Rattle.terms.specs.declared.Refusal.{Refusal}
 use Rattle.packet.specs.Read.{inside, read_packet}
 use Rattle.packet.specs.declared.Packet.{Packet}
-use Rattle.packet.specs.declared.PacketRead.{PacketRead}
-use Rattle.packet.specs.declared.PacketRead.TheVariants.{Accepted, Refused}
 use Rattle.recording.specs.declared.Recording.{Recording}
 
 -- a reading: the packets handed out, the place reached, in the buffer and in the recording, and the refusal there, or none at the exact end
@@ -24,9 +22,9 @@ abbrev pub ahead : Packet → Reading → Reading
 ahead p r = record { packets = p ∷ r.packets; reached = r.reached; recording_reached = r.recording_reached; refusal = r.refusal }
 
 -- the first packet that is refused ends the reading
-abbrev pub onward : PacketRead → ℕ → ℕ → (Packet → Reading) → Reading
-onward (Accepted p) at base next = ahead p (next p)
-onward (Refused r) at base next = stopped at base r
+abbrev pub onward : Result Packet Refusal → ℕ → ℕ → (Packet → Reading) → Reading
+onward (Ok p) at base next = ahead p (next p)
+onward (Err r) at base next = stopped at base r
 
 -- packets are read from `at`, which is `base` in the recording, to the end, each at the end of the one before and with the base moved on as far, in
 -- so many turns at most; the bytes ahead are turns enough (turns_enough)

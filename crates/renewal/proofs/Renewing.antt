@@ -1,5 +1,6 @@
 -- What renewing says and leaves behind, path by path.
-use mathlib.Core.Path.{◌≡◌, refl, sym, ap, ◌∙◌}
+use Rattle.std.specs.Prelude.{Result, Ok, Err}
+use mathlib.Core.Path.{◌≡◌, sym, ap, ◌∙◌}
 use mathlib.Core.List.{List}
 use mathlib.Core.Bool.{Bool, true, false}
 use Prim.Native.Nat.{ℕ, ◌*◌, ◌≤◌, ◌<◌}
@@ -12,13 +13,12 @@ use Rattle.units.proofs.Sames.{same_long}
 use Rattle.terms.specs.Refusals.{no_refusal}
 use Rattle.terms.specs.declared.Refusal.{Refusal}
 use Rattle.packet.specs.Read.{inside, window, read_packet}
-use Rattle.packet.specs.declared.PacketRead.TheVariants.{Refused}
-use Rattle.renewal.specs.declared.EntryRenewal.{EntryRenewal}
-use Rattle.renewal.specs.declared.EntryRenewal.TheVariants.{Lives, Dropped, Unrenewed}
 use Rattle.renewal.specs.Table.{Entry, length_of, entry, slot_of}
-use Rattle.renewal.specs.Renewal.{barred, store_small, own_bytes, holds, judged, renew_entry, table_renewed}
+use Rattle.renewal.specs.Renewal.{barred, store_small, own_bytes, holds, judged, renew_entry}
 use Rattle.packet.proofs.Window.{own_part}
 use Rattle.renewal.proofs.Passing.{Taken}
+use Rattle.renewal.specs.declared.Renewed.{Renewed}
+use Rattle.renewal.specs.declared.Renewed.TheVariants.{Lives, Dropped}
 
 -- ---- the held bytes
 
@@ -40,7 +40,7 @@ module _ (store : List ℕ) (k n : ℕ) (bytes : List ℕ) where
 -- ---- the judgement
 
 module _ (store : List ℕ) (k n : ℕ) (buf : List ℕ) (s e place : ℕ) where
-  pub judge_refused : (r : Refusal) → read_packet buf s e place ≡ Refused r → Dropped r ≡ judged (read_packet buf s e place) store k n (window buf s e)
+  pub judge_refused : (r : Refusal) → read_packet buf s e place ≡ Err r → Ok (Dropped r) ≡ judged (read_packet buf s e place) store k n (window buf s e)
   unfolding judged
   judge_refused r read = rw read
 
@@ -50,38 +50,35 @@ module _ (store : List ℕ) (k n : ℕ) (buf : List ℕ) (s e place : ℕ) where
         let bytes : part buf s p ≡ own_bytes (window buf s e) = own_part buf s e p (omega (arith, got.there, got.reach)) ∙ ap (λ (m : ℕ). take m (window buf s e)) got.own in
         is ∙ ap (holds store k n) bytes
 
-    pub judge_lives : b ≡ true → Lives ≡ judged (read_packet buf s e place) store k n (window buf s e)
+    pub judge_lives : b ≡ true → (Ok Lives) ≡ judged (read_packet buf s e place) store k n (window buf s e)
     unfolding judged
     judge_lives h = rw (got.read, ← own, h)
 
-    pub judge_differs : (r : Refusal) → b ≡ false → r ≡ no_refusal → Dropped r ≡ judged (read_packet buf s e place) store k n (window buf s e)
+    pub judge_differs : (r : Refusal) → b ≡ false → r ≡ no_refusal → Ok (Dropped r) ≡ judged (read_packet buf s e place) store k n (window buf s e)
     unfolding judged
     judge_differs r h none = rw (got.read, ← own, h, none)
 
 -- ---- the call
 
 module _ (t : List Entry) (store : List ℕ) (recording place : ℕ) (buf : List ℕ) (s e : ℕ) where
-  abbrev told : EntryRenewal
+  abbrev told : Result Renewed Refusal
   told = renew_entry t store recording place buf s e
 
-  pub renew_small : (r : Refusal) → length store < 65536 → r ≡ store_small s place → Unrenewed r ≡ told
+  pub renew_small : (r : Refusal) → length store < 65536 → r ≡ store_small s place → Err r ≡ told
   unfolding renew_entry
   renew_small r h is = rw (lt-ltb (length store) 65536 h, is)
 
-  module _ (room : 65536 ≤ length store) (k : ℕ) (slot : k ≡ slot_of recording place t) where
-    pub renew_none : (r : Refusal) → 64 ≤ k → r ≡ barred 20 s place → Unrenewed r ≡ told
+  module _ (room : 65536 ≤ length store) where
+    pub renew_none : (r : Refusal) → 64 ≤ slot_of recording place t → r ≡ barred 20 s place → Err r ≡ told
     unfolding renew_entry
-    renew_none r h is = rw (le-ltb (length store) 65536 room, ← slot) (rw (le-leb 64 k h, is))
+    renew_none r h is = rw (le-ltb (length store) 65536 room, le-leb 64 (slot_of recording place t) h, is)
 
-    pub renew_outside : (r : Refusal) → k < 64 → inside buf s e place ≡ false → r ≡ barred 1 s place → Unrenewed r ≡ told
-    unfolding renew_entry
-    renew_outside r h i is = rw (le-ltb (length store) 65536 room, ← slot) (rw (lt-leb 64 k h, i, is))
+    module _ (k : ℕ) (slot : k ≡ slot_of recording place t) (low : k < 64) where
+      pub renew_outside : (r : Refusal) → inside buf s e place ≡ false → r ≡ barred 1 s place → Err r ≡ told
+      unfolding renew_entry
+      renew_outside r i is = rw (le-ltb (length store) 65536 room, ← slot) (rw (lt-leb 64 k low, i, is))
 
-    pub renew_judged : (x : EntryRenewal) → k < 64 → inside buf s e place ≡ true
-        → x ≡ judged (read_packet buf s e place) store k (length_of (entry t k)) (window buf s e) → x ≡ told
-    unfolding renew_entry
-    renew_judged x h i is = rw (le-ltb (length store) 65536 room, ← slot) (rw (lt-leb 64 k h, i) is)
-
-pub table_kept : (r : Refusal) (t : List Entry) (k : ℕ) → t ≡ table_renewed (Unrenewed r) t k
-unfolding table_renewed
-table_kept r t k = refl
+      pub renew_judged : (x : Result Renewed Refusal) → inside buf s e place ≡ true
+          → x ≡ judged (read_packet buf s e place) store k (length_of (entry t k)) (window buf s e) → x ≡ told
+      unfolding renew_entry
+      renew_judged x i is = rw (le-ltb (length store) 65536 room, ← slot) (rw (lt-leb 64 k low, i) is)

@@ -2,64 +2,52 @@
 // store of 64 slots of 1,024 bytes. An entry's name is its recording number and place, and the place is the base of the window read.
 #![tactic(auto)]
 
-ghost use Rattle.std.specs.Prelude.{◌≡◌, length, take, ◌≤◌, ◌<◌};
+ghost use Rattle.std.specs.Prelude.{Ok, ◌≡◌, length, take, ◌≤◌, ◌<◌};
+ghost use Rattle.terms.specs.Numbers.{number_of};
 ghost use Rattle.packet.specs.Read.{window, packet_in, read_packet};
 ghost use Rattle.renewal.specs.Table.{entry_of, empty_table, next_live, slot_of};
 ghost use Rattle.renewal.specs.Renewal.{barred, store_small, put_answer, add_entry, entry_in, own_bytes, table_added, store_added, holds, judged, renew_entry, table_renewed};
 
-use packet::{PacketPass, inside, outside};
-use terms::{Refusal, no_refusal, no_room, recorded, refuse};
+use packet::window_bytes;
+use terms::{Number, Refusal, no_refusal, no_room, recorded, refuse};
 use units::{copy_at, equal};
 
 mod reading;
-pub mod slots;
+mod slots;
 
 use reading::pass_window;
-use slots::{LENGTH, drop_entry, home_of, put_entry, seek, slot_of};
+pub use slots::{Row, Table};
+use slots::{home_of, live_behind, slot_of};
 
-// A row for each slot: whether its entry lives (any word but 0), recording number, place, P, channel, sequence, RTC.
-pub type Table = [[u64; 7]; 64];
-
-// The slot of the entry added, or the refusal.
+// What became of an entry: it lives on; or it is dropped, with the reader's refusal or `no_refusal`, as the theorem
+// `answers_dropped` tells it.
 #[derive(Clone, Copy)]
-pub enum EntryAdd {
-    Added(usize),
-    Unadded(Refusal),
-}
-
-// The entry lives on; or it is dropped, with the reader's refusal or none; or the refusal, and nothing is changed.
-#[derive(Clone, Copy)]
-pub enum EntryRenewal {
+pub enum Renewed {
     Lives,
     Dropped(Refusal),
-    Unrenewed(Refusal),
-}
-
-// What a slot is looked for by; inside this crate only.
-#[derive(Clone, Copy)]
-pub enum Wanted {
-    Named(u64, u64),
-    Free,
-    Live,
 }
 
 // A table of 64 free slots.
 pub fn empty() -> Table
     ensures { result ≡ empty_table }
 {
-    [[0, 0, 0, 0, 0, 0, 0]; 64]
+    [Row::FREE; 64]
 }
 
-// The lowest slot at or behind this one whose entry lives, 64 if there is none.
+// The lowest slot at or behind this one whose entry lives, 64 if there is none: so C has it (ch11_renewal_next).
+#[tactic(auto, using(crate::proofs::Seeking::next_found, crate::proofs::Seeking::next_none))]
 pub fn next_live(table: &Table, from: usize) -> usize
     ensures { result ≡ next_live table.now from }
 {
-    seek(table, from, Wanted::Live)
+    match live_behind(table, from) {
+        Some(k) => from + k,
+        None => 64,
+    }
 }
 
 // A refusal at the window's start, whose place in the recording is the name's.
-fn bar(number: u8, start: usize, place: u64) -> Refusal
-    ensures { result ≡ barred number start place }
+fn bar(number: Number, start: usize, place: u64) -> Refusal
+    ensures { result ≡ barred (number_of number) start place }
 {
     recorded(refuse(number, start), start, place)
 }
@@ -72,6 +60,7 @@ fn store_small(start: usize, place: u64) -> Refusal
 }
 
 // Adds the packet at the start of a window's bytes, of n bytes: 21, then 19; or it goes into its slot.
+#[tactic(auto, unfolding(crate::specs::Renewal::table_added, crate::specs::Renewal::store_added), using(crate::proofs::Adding::put_long, crate::proofs::Adding::put_full, crate::proofs::Adding::put_goes))]
 fn put_packet(
     table: &mut Table,
     store: &mut [u8],
@@ -80,27 +69,27 @@ fn put_packet(
     w: &[u8],
     start: usize,
     n: usize,
-) -> EntryAdd
+) -> Result<usize, Refusal>
     requires { (65536 ≤ length store.old) × (24 ≤ length w.now) × (n ≤ length w.now) }
     ensures value { result ≡ put_answer table.old recording place start n }
     ensures table_after { table.new ≡ table_added result table.old (entry_of recording (packet_in w.now 0 place)) }
     ensures store_after { store.new ≡ store_added result store.old (take n w.now) }
 {
     if 1024 < n {
-        return EntryAdd::Unadded(bar(21, start, place));
+        return Err(bar(Number::Long, start, place));
     }
-    let k = home_of(table, recording, place);
-    if 64 <= k {
-        return EntryAdd::Unadded(bar(19, start, place));
-    }
+    let Some(k) = home_of(table, recording, place) else {
+        return Err(bar(Number::Full, start, place));
+    };
     copy_at(store, k * 1024, &w[0..n]);
-    put_entry(table, k, recording, place, w);
-    EntryAdd::Added(k)
+    table[k] = Row::of_packet(recording, place, w);
+    Ok(k)
 }
 
-// Adds the packet at the start of a window, which stands at this place in the recording; a name already held is replaced in its own
-// slot. 16, the reader's refusals, 21 for a packet over 1,024 bytes, 19 where 64 other entries live; table and store are then as they
-// were. Of the store the packet's own bytes are written and no others.
+// Adds the packet at the start of a window, which stands at this place in the recording; the answer is its slot. A name already held is
+// replaced in its own slot. 16, the reader's refusals, 21 for a packet over 1,024 bytes, 19 where 64 other entries live; table and store
+// are then as they were. Of the store the packet's own bytes are written and no others. Name and window stay parameters, as C gives
+// them: the place is the name's and the window's base.
 pub fn add(
     table: &mut Table,
     store: &mut [u8],
@@ -109,29 +98,20 @@ pub fn add(
     buf: &[u8],
     start: usize,
     end: usize,
-) -> EntryAdd
+) -> Result<usize, Refusal>
     ensures value { result ≡ add_entry table.old (length store.old) recording place buf.now start end }
     ensures table_after { table.new ≡ table_added result table.old (entry_in recording place buf.now start end) }
     ensures store_after { store.new ≡ store_added result store.old (own_bytes (window buf.now start end)) }
 {
     if store.len() < 65536 {
-        return EntryAdd::Unadded(store_small(start, place));
+        return Err(store_small(start, place));
     }
-    match pass_window(buf, start, end, place) {
-        PacketPass::Barred(refusal) => EntryAdd::Unadded(refusal),
-        PacketPass::Passed(length) => put_packet(
-            table,
-            store,
-            recording,
-            place,
-            &buf[start..end],
-            start,
-            length as usize,
-        ),
-    }
+    let n = pass_window(buf, start, end, place)? as usize;
+    put_packet(table, store, recording, place, &buf[start..end], start, n)
 }
 
-// Whether an entry of n bytes in slot k holds just these bytes. An n past 1,024 is forged.
+// Whether an entry of n bytes in slot k holds just these bytes. An n past 1,024 is forged. Three functions ask for k below 64 and for a
+// store of 65,536 bytes: types for the two would wrap what `position` gives, and the store once as lent for writing, once for reading.
 fn held(store: &[u8], k: usize, n: u64, bytes: &[u8]) -> bool
     requires { (65536 ≤ length store.now) × (k < 64) }
     ensures { result ≡ holds store.now k n bytes.now }
@@ -155,31 +135,31 @@ fn judge(
     start: usize,
     end: usize,
     place: u64,
-) -> EntryRenewal
+) -> Renewed
     requires { (65536 ≤ length store.now) × (k < 64) }
-    ensures { result ≡ judged (read_packet buf.now start end place) store.now k n (window buf.now start end) }
+    ensures { Ok result ≡ judged (read_packet buf.now start end place) store.now k n (window buf.now start end) }
 {
     match pass_window(buf, start, end, place) {
-        PacketPass::Barred(refusal) => EntryRenewal::Dropped(refusal),
-        PacketPass::Passed(length) => {
+        Err(refusal) => Renewed::Dropped(refusal),
+        Ok(length) => {
             if held(store, k, n, &buf[start..start + length as usize]) {
-                EntryRenewal::Lives
+                Renewed::Lives
             } else {
-                EntryRenewal::Dropped(no_refusal())
+                Renewed::Dropped(no_refusal())
             }
         }
     }
 }
 
 // The table after that.
-fn settle(table: &mut Table, k: usize, told: EntryRenewal)
+#[tactic(auto, unfolding(crate::specs::Renewal::table_renewed))]
+fn settle(table: &mut Table, k: usize, told: Renewed)
     requires { k < 64 }
-    ensures { table.new ≡ table_renewed told table.old k }
+    ensures { table.new ≡ table_renewed (Ok told) table.old k }
 {
     match told {
-        EntryRenewal::Dropped(_) => drop_entry(table, k),
-        EntryRenewal::Lives => {}
-        EntryRenewal::Unrenewed(_) => {}
+        Renewed::Dropped(_) => table[k] = Row::FREE,
+        Renewed::Lives => {}
     }
 }
 
@@ -194,21 +174,19 @@ pub fn renew(
     buf: &[u8],
     start: usize,
     end: usize,
-) -> EntryRenewal
+) -> Result<Renewed, Refusal>
     ensures value { result ≡ renew_entry table.old store.now recording place buf.now start end }
     ensures table_after { table.new ≡ table_renewed result table.old (slot_of recording place table.old) }
 {
     if store.len() < 65536 {
-        return EntryRenewal::Unrenewed(store_small(start, place));
+        return Err(store_small(start, place));
     }
-    let k = slot_of(table, recording, place);
-    if 64 <= k {
-        return EntryRenewal::Unrenewed(bar(20, start, place));
-    }
-    if !inside(buf, start, end, place) {
-        return EntryRenewal::Unrenewed(outside(start, place));
-    }
-    let told = judge(store, k, table[k][LENGTH], buf, start, end, place);
+    let Some(k) = slot_of(table, recording, place) else {
+        return Err(bar(Number::NoEntry, start, place));
+    };
+    window_bytes(buf, start, end, place)?;
+    let row = &table[k];
+    let told = judge(store, k, row.length, buf, start, end, place);
     settle(table, k, told);
-    told
+    Ok(told)
 }

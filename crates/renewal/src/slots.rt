@@ -1,105 +1,106 @@
-// The rows of a table: looked for, set and cleared.
-ghost use Rattle.std.specs.Prelude.{◌≡◌, ◌<◌, ◌≤◌, length, set};
+// The rows of a table, and the slots that are looked for.
+ghost use Rattle.std.specs.Prelude.{◌≡◌, ◌≤◌, length, drop, position};
 ghost use Rattle.packet.specs.Read.{packet_in};
-ghost use Rattle.renewal.specs.Table.{entry_of, no_entry, entry, slot_of, home_of, lowest_from};
-ghost use Rattle.renewal.specs.inner.Slots.{suits};
+ghost use Rattle.renewal.specs.Table.{entry_of, free, live, named, home_of};
+ghost use Rattle.renewal.specs.inner.Slots.{Found};
 
-use crate::{Table, Wanted};
-use units::{read16, read32, read48};
+use std::marker::Model;
+use units::{InBytes, read48};
 
-// The words of a row that are looked at. LENGTH is P.
-const LIVE: usize = 0;
-
-const RECORDING: usize = 1;
-
-const PLACE: usize = 2;
-
-pub const LENGTH: usize = 3;
-
-// How many rows there are.
-fn count(rows: &[[u64; 7]]) -> usize
-    ensures { result ≡ length rows.now }
-{
-    rows.len()
+// A slot's row, as C lends it: whether its entry lives (any number but 0), recording number, place, P, channel, sequence, RTC. A contract
+// sees the list of these words.
+#[repr(C)]
+#[derive(Clone, Copy)]
+pub struct Row {
+    pub live: u64,
+    pub recording: u64,
+    pub place: u64,
+    pub length: u64,
+    pub channel: u64,
+    pub sequence: u64,
+    pub rtc: u64,
 }
 
-// 64. What lies behind a reference to an array has the array's length: a proof learns it where the array is lent as a slice.
-pub fn slots(table: &Table) -> usize
-    ensures { (result ≡ 64) × (length table.now ≡ 64) }
-{
-    count(table)
+impl Model for Row {
+    ghost use Rattle.std.specs.Prelude.{ℕ, List, [], ◌∷◌, get_or};
+
+    ghost Value = { List ℕ };
+
+    ghost view = { λ r. r.live ∷ r.recording ∷ r.place ∷ r.length ∷ r.channel ∷ r.sequence ∷ r.rtc ∷ [] };
+
+    ghost inverse = { λ ws. record { live = get_or ws 0 0; recording = get_or ws 1 0; place = get_or ws 2 0; length = get_or ws 3 0; channel = get_or ws 4 0; sequence = get_or ws 5 0; rtc = get_or ws 6 0 } };
 }
 
-// Whether the entry in a slot is as wanted. The place stands first: it differs most often, and the compiled search stops there.
-fn suits(table: &Table, k: usize, wanted: Wanted) -> bool
-    requires { k < 64 }
-    ensures { result ≡ suits wanted (entry table.now k) }
-{
-    match wanted {
-        Wanted::Named(recording, place) => {
-            (table[k][PLACE] == place) & (table[k][RECORDING] == recording) & (table[k][LIVE] != 0)
+pub type Table = [Row; 64];
+
+impl Row {
+    // That of a free slot.
+    pub(crate) const FREE: Row = Row {
+        live: 0,
+        recording: 0,
+        place: 0,
+        length: 0,
+        channel: 0,
+        sequence: 0,
+        rtc: 0,
+    };
+
+    // The entry of the packet at the start of a window's bytes, which stands at this place in this recording.
+    pub(crate) fn of_packet(recording: u64, place: u64, w: &[u8]) -> Row
+        requires { 24 ≤ length w.now }
+        ensures { result ≡ entry_of recording (packet_in w.now 0 place) }
+    {
+        Row {
+            live: 1,
+            recording,
+            place,
+            length: u64::from(u32::read(w, 4)),
+            channel: u64::from(u16::read(w, 2)),
+            sequence: u64::from(w[13]),
+            rtc: read48(w, 16),
         }
-        Wanted::Free => table[k][LIVE] == 0,
-        Wanted::Live => table[k][LIVE] != 0,
+    }
+
+    // Whether no entry lives here.
+    fn is_free(&self) -> bool
+        ensures { result ≡ free self.now }
+    {
+        self.live == 0
+    }
+
+    // Whether an entry of this name lives here. The place stands first: it differs most often, and the compiled search stops there.
+    fn is_named(&self, recording: u64, place: u64) -> bool
+        ensures { result ≡ named recording place self.now }
+    {
+        self.place == place && self.recording == recording && self.live != 0
     }
 }
 
-// The lowest such slot at or behind this one, 64 if there is none.
-pub fn seek(table: &Table, from: usize, wanted: Wanted) -> usize
-    ensures { result ≡ lowest_from (suits wanted) table.now from }
+// Where a name is held.
+pub fn slot_of(table: &Table, recording: u64, place: u64) -> Option<usize>
+    ensures { result ≡ position (named recording place) table.now }
 {
-    let n = slots(table);
-    let mut k = from;
-    while k < n {
-        if suits(table, k, wanted) {
-            return k;
-        }
-        k += 1;
-    }
-    n
+    table.iter().position(|row| row.is_named(recording, place))
 }
 
-// Where a name is held, 64 if it isn't.
-pub fn slot_of(table: &Table, recording: u64, place: u64) -> usize
-    ensures { result ≡ slot_of recording place table.now }
+// The lowest free slot.
+fn free_slot(table: &Table) -> Option<usize>
+    ensures { result ≡ position free table.now }
 {
-    seek(table, 0, Wanted::Named(recording, place))
+    table.iter().position(|row| row.is_free())
 }
 
-// Where a name is to be held, 64 if there is no slot for it.
-pub fn home_of(table: &Table, recording: u64, place: u64) -> usize
-    ensures { result ≡ home_of recording place table.now }
+// How far behind this slot the next entry that lives stands, 0 where it stands in it.
+pub fn live_behind(table: &Table, from: usize) -> Option<usize>
+    ensures { result ≡ position live (drop from table.now) }
 {
-    let k = slot_of(table, recording, place);
-    if k < 64 {
-        return k;
-    }
-    seek(table, 0, Wanted::Free)
+    table.iter().skip(from).position(|row| !row.is_free())
 }
 
-// A byte as a word: of one that is read from a slice a proof does not know by itself that it fits.
-fn word_of(byte: u8) -> u64
-    ensures { result ≡ byte }
+// Where a name is to be held.
+#[tactic(auto, using(crate::proofs::Seeking::home_own, crate::proofs::Seeking::home_free))]
+pub fn home_of(table: &Table, recording: u64, place: u64) -> Option<usize>
+    ensures { Found (home_of recording place table.now) result }
 {
-    byte as u64
-}
-
-// The entry of the packet at the start of a window's bytes, which stands at this place in this recording.
-pub fn put_entry(table: &mut Table, k: usize, recording: u64, place: u64, w: &[u8])
-    requires { (k < 64) × (24 ≤ length w.now) }
-    ensures { table.new ≡ set table.old k (entry_of recording (packet_in w.now 0 place)) }
-{
-    let length = read32(w, 4) as u64;
-    let channel = read16(w, 2) as u64;
-    let sequence = word_of(w[13]);
-    let rtc = read48(w, 16);
-    table[k] = [1, recording, place, length, channel, sequence, rtc];
-}
-
-// Frees a slot: its row is all zeros.
-pub fn drop_entry(table: &mut Table, k: usize)
-    requires { k < 64 }
-    ensures { table.new ≡ set table.old k no_entry }
-{
-    table[k] = [0, 0, 0, 0, 0, 0, 0];
+    slot_of(table, recording, place).or_else(|| free_slot(table))
 }

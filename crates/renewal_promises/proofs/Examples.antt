@@ -1,4 +1,5 @@
 -- The promises are not empty: L is added to an empty table, is kept there, lives on, and is dropped once it is withdrawn.
+use Rattle.std.specs.Prelude.{Result}
 use mathlib.Core.Path.{◌≡◌, refl, ap}
 use mathlib.Core.List.{List}
 use Prim.Native.Nat.{ℕ, ◌≤◌}
@@ -20,8 +21,6 @@ use Rattle.packet.specs.Read.{PacketTold, packet_told}
 use Rattle.packet.specs.declared.Packet.{Packet}
 use Rattle.packet.proofs.Told.{read_told_lem}
 use Rattle.renewal.specs.Renewal.{AddTold, add_told, renew_told}
-use Rattle.renewal.specs.declared.EntryAdd.{EntryAdd}
-use Rattle.renewal.specs.declared.EntryRenewal.{EntryRenewal}
 use Rattle.renewal_promises.specs.Slots.{Rows, HeldAt, First, FreeAt, Accepts}
 use Rattle.renewal_promises.specs.Adding.{added_told}
 use Rattle.renewal_promises.specs.Keeping.{Made, empty, added as added-to, Keeps}
@@ -29,6 +28,8 @@ use Rattle.renewal_promises.specs.Calls.{Add, Renew}
 use Rattle.renewal_promises.proofs.Made.{none_empty}
 use Rattle.renewal_promises.proofs.Added.{told_accepted}
 use Rattle.renewal_promises.proofs.Renewal.{renewal}
+use Rattle.terms.specs.declared.Refusal.{Refusal}
+use Rattle.renewal.specs.declared.Renewed.{Renewed}
 
 abbrev unused : Rows
 unused = replicate 64 (replicate 7 0)
@@ -56,7 +57,7 @@ L_withdrawn : (packet_told (read_packet L 0 0 5000)).refusal.number ≡ 2
 unfolding num sum_units summed zeros time_ok rule_of message_shape uart_shape open_body stamp_length length_by head_at inside judge block_at spot stop_at ending walk_from walk check_body fields_in limit message_rule first head_lines value_lines whole_lines secondary_lines trailer_lines frame_lines packet_in body_checked pass_body pass_bytes pass_window read_answer read_packet L
 L_withdrawn = refl
 
-module _ (store : List ℕ) (room : 65536 ≤ length store) (r : EntryAdd) (t : Rows) (store₁ : List ℕ) (added : Add unused store 7 5000 L 0 40 r t store₁) where
+module _ (store : List ℕ) (room : 65536 ≤ length store) (r : Result ℕ Refusal) (t : Rows) (store₁ : List ℕ) (added : Add unused store 7 5000 L 0 40 r t store₁) where
   first_free : First (FreeAt unused) 0
   first_free = ((omega arith, refl), λ j below such. omega arith)
 
@@ -81,13 +82,13 @@ module _ (store : List ℕ) (room : 65536 ≤ length store) (r : EntryAdd) (t : 
       omega (arith, put.size, room)
 
   -- as long as it is there it lives on
-  pub lives_on : (q : EntryRenewal) (t₂ : Rows) → Renew t store₁ 7 5000 L 0 40 q t₂ → (renew_told q).lives ≡ 1
+  pub lives_on : (q : Result Renewed Refusal) (t₂ : Rows) → Renew t store₁ 7 5000 L 0 40 q t₂ → (renew_told q).lives ≡ 1
   lives_on q t₂ call =
       (renewal.keeps_lives t store₁ 7 5000 L 0 40 q t₂ (part L 0 l_packet.length) (renewal.slots t made) call room_left
       (omega arith, omega (arith, L_fits), lit≤ tt) kept).1 (l_packet, L_accepted, refl)
 
   -- withdrawn, with all of it still in the buffer behind the fill, it is gone
-  pub withdrawn : (q : EntryRenewal) (t₂ : Rows) → Renew t store₁ 7 5000 L 0 0 q t₂ → (k : ℕ) → ¬ HeldAt t₂ 7 5000 k
+  pub withdrawn : (q : Result Renewed Refusal) (t₂ : Rows) → Renew t store₁ 7 5000 L 0 0 q t₂ → (k : ℕ) → ¬ HeldAt t₂ 7 5000 k
   withdrawn q t₂ call =
       renewal.gone t made store₁ 7 5000 L 0 0 q t₂ call room_left (omega arith, omega arith, lit≤ tt)
       (λ k held equal. omega (arith, L_withdrawn, ap (λ (x : PacketTold). x.refusal.number) equal.accepted))

@@ -1,4 +1,5 @@
 -- What a table keeps: the entry that was added, and the others, with their bytes.
+use Rattle.std.specs.Prelude.{Result}
 use mathlib.Core.Path.{◌≡◌, refl, sym, ap, subst, ◌∙◌}
 use mathlib.Core.List.{List, [], ◌∷◌}
 use mathlib.Core.Bool.{Bool, true, false}
@@ -16,8 +17,6 @@ use Rattle.promises.specs.Handed.{Within}
 use Rattle.promises.proofs.Ends.{accepted_is}
 use Rattle.renewal.specs.Table.{slot_of, home_of}
 use Rattle.renewal.specs.Renewal.{add_told, table_renewed, renew_told}
-use Rattle.renewal.specs.declared.EntryAdd.{EntryAdd}
-use Rattle.renewal.specs.declared.EntryRenewal.{EntryRenewal}
 use Rattle.renewal_promises.specs.Slots.{Rows, row, word, HeldAt, Accepts, Equals}
 use Rattle.renewal_promises.specs.Calls.{Add, Renew}
 use Rattle.renewal_promises.specs.Keeping.{Keeps, Other, Kept}
@@ -25,6 +24,8 @@ use Rattle.renewal_promises.proofs.Finding.{slot_held, slot_none, free_first, ho
 use Rattle.renewal_promises.proofs.Added as adding
 use Rattle.renewal_promises.proofs.Renewed as renewing
 use Rattle.renewal_promises.proofs.Made.{held_row, not_dropped, put_name}
+use Rattle.terms.specs.declared.Refusal.{Refusal}
+use Rattle.renewal.specs.declared.Renewed.{Renewed}
 
 -- two names in one slot are one
 one_name : (t : Rows) (recording place recording' place' k : ℕ) → Other recording place recording' place' → HeldAt t recording place k → HeldAt t recording' place' k → ⊥
@@ -68,7 +69,7 @@ module _ (t : Rows) (all : length t ≡ 64) (store : List ℕ) (recording place 
   -- ---- other entries
 
   module _ (recording' place' : ℕ) (other : Other recording place recording' place') where
-    pub add_others : (r : EntryAdd) (t' : Rows) (store' : List ℕ) → Add t store recording place buf start end r t' store' → (j : ℕ) → HeldAt t recording' place' j
+    pub add_others : (r : Result ℕ Refusal) (t' : Rows) (store' : List ℕ) → Add t store recording place buf start end r t' store' → (j : ℕ) → HeldAt t recording' place' j
         → Kept t store j t' store'
     add_others r t' store' call j held =
         ⊎_elim
@@ -82,7 +83,7 @@ module _ (t : Rows) (all : length t ≡ 64) (store : List ℕ) (recording place 
         ))
         (adding.effect t all store recording place buf start end r t' store' call)
 
-    pub renew_others : (r : EntryRenewal) (t' : Rows) → Renew t store recording place buf start end r t' → (j : ℕ) → HeldAt t recording' place' j → Kept t store j t' store
+    pub renew_others : (r : Result Renewed Refusal) (t' : Rows) → Renew t store recording place buf start end r t' → (j : ℕ) → HeldAt t recording' place' j → Kept t store j t' store
     renew_others r t' call j held =
         ⊎_elim
         (λ kept. (ap (λ (u : Rows). row u j) kept, refl))
@@ -105,7 +106,7 @@ module _ (t : Rows) (all : length t ≡ 64) (store : List ℕ) (recording place 
               ∙ k.there;
         }
 
-    pub add_keeps_others : (r : EntryAdd) (t' : Rows) (store' : List ℕ) → Add t store recording place buf start end r t' store' → (bytes : List ℕ)
+    pub add_keeps_others : (r : Result ℕ Refusal) (t' : Rows) (store' : List ℕ) → Add t store recording place buf start end r t' store' → (bytes : List ℕ)
         → Keeps t store recording' place' bytes → Keeps t' store' recording' place' bytes
     add_keeps_others r t' store' call bytes k =
         keeps_on t' store' bytes k (add_others r t' store' call k.slot k.held.0) (λ j below held. ⊎_elim
@@ -121,7 +122,7 @@ module _ (t : Rows) (all : length t ≡ 64) (store : List ℕ) (recording place 
             ⊎_elim (λ n. n (sym name.0)) (λ n. n (sym name.1)) other
         go j below held p false is = k.held.1 j below (held_row t t' recording' place' j (p.put.others j (eqb-false j (home_of recording place t) is)) held)
 
-    pub renew_keeps_others : (r : EntryRenewal) (t' : Rows) → Renew t store recording place buf start end r t' → (bytes : List ℕ)
+    pub renew_keeps_others : (r : Result Renewed Refusal) (t' : Rows) → Renew t store recording place buf start end r t' → (bytes : List ℕ)
         → Keeps t store recording' place' bytes → Keeps t' store recording' place' bytes
     renew_keeps_others r t' call bytes k =
         keeps_on t' store bytes k (renew_others r t' call k.slot k.held.0) (λ j below held. ⊎_elim
@@ -147,7 +148,7 @@ module _ (t : Rows) (all : length t ≡ 64) (store : List ℕ) (recording place 
           (slot_held t all recording place low).1 j (omega (arith, home_own t all recording place low, below)) held
       go false h = slot_none t all recording place (ltb-false (slot_of recording place t) 64 h) j held
 
-  keeps_put : (r : EntryAdd) (t' : Rows) (store' : List ℕ) → (p : adding.PutHome t all store recording place buf start end r t' store')
+  keeps_put : (r : Result ℕ Refusal) (t' : Rows) (store' : List ℕ) → (p : adding.PutHome t all store recording place buf start end r t' store')
       → Keeps t' store' recording place (part buf start p.packet.length)
   keeps_put r t' store' p =
       let k = home_of recording place t in
@@ -165,7 +166,7 @@ module _ (t : Rows) (all : length t ≡ 64) (store : List ℕ) (recording place 
         there = ap (part store' (k * 1024)) long ∙ p.put.bytes;
       }
 
-  pub add_keeps : (r : EntryAdd) (t' : Rows) (store' : List ℕ) (p : Packet) → Add t store recording place buf start end r t' store' → (add_told r).refusal.number ≡ 0
+  pub add_keeps : (r : Result ℕ Refusal) (t' : Rows) (store' : List ℕ) (p : Packet) → Add t store recording place buf start end r t' store' → (add_told r).refusal.number ≡ 0
       → Accepts buf start end place p → Keeps t' store' recording place (part buf start p.length)
   add_keeps r t' store' p call z accepted =
       ⊎_elim
@@ -177,7 +178,7 @@ module _ (t : Rows) (all : length t ≡ 64) (store : List ℕ) (recording place 
 
   -- ---- its renewal
 
-  pub renew_keeps : (r : EntryRenewal) (t' : Rows) (bytes : List ℕ) → Renew t store recording place buf start end r t' → (renew_told r).lives ≡ 1
+  pub renew_keeps : (r : Result Renewed Refusal) (t' : Rows) (bytes : List ℕ) → Renew t store recording place buf start end r t' → (renew_told r).lives ≡ 1
       → Keeps t store recording place bytes → Keeps t' store recording place bytes
   unfolding table_renewed
   renew_keeps r t' bytes call one k =
@@ -185,7 +186,7 @@ module _ (t : Rows) (all : length t ≡ 64) (store : List ℕ) (recording place 
       let same : t' ≡ t = call.1 ∙ rw lives in
       subst (λ (u : Rows). Keeps u store recording place bytes) (sym same) k
 
-  pub keeps_lives : (r : EntryRenewal) (t' : Rows) (bytes : List ℕ) → Renew t store recording place buf start end r t' → 65536 ≤ length store
+  pub keeps_lives : (r : Result Renewed Refusal) (t' : Rows) (bytes : List ℕ) → Renew t store recording place buf start end r t' → 65536 ≤ length store
       → Within buf start end place → Keeps t store recording place bytes
       → ((renew_told r).lives ≡ 1) ↔ ((p : Packet) × Accepts buf start end place p × (part buf start p.length ≡ bytes))
   keeps_lives r t' bytes call room within k =

@@ -1,4 +1,5 @@
 -- Tables made by adding and renewing: 64 slots, each name at most once, and what is withdrawn is gone.
+use Rattle.std.specs.Prelude.{Result, Ok, Err}
 use mathlib.Core.Path.{◌≡◌, refl, sym, ap, subst, ◌∙◌}
 use mathlib.Core.List.{List, []}
 use mathlib.Core.Bool.{Bool, true, false}
@@ -12,10 +13,6 @@ use Rattle.packet.specs.declared.Packet.{Packet}
 use Rattle.promises.specs.Handed.{Within}
 use Rattle.renewal.specs.Table.{Entry, no_entry, slot_of, home_of}
 use Rattle.renewal.specs.Renewal.{entry_in, table_added, table_renewed, RenewTold}
-use Rattle.renewal.specs.declared.EntryAdd.{EntryAdd}
-use Rattle.renewal.specs.declared.EntryAdd.TheVariants.{Added, Unadded}
-use Rattle.renewal.specs.declared.EntryRenewal.{EntryRenewal}
-use Rattle.renewal.specs.declared.EntryRenewal.TheVariants.{Lives, Dropped, Unrenewed}
 use Rattle.renewal_promises.specs.Slots.{Rows, row, HeldAt, First, Equals}
 use Rattle.renewal_promises.specs.Adding.{Put}
 use Rattle.renewal_promises.specs.Renewing.{Drops}
@@ -24,6 +21,9 @@ use Rattle.renewal_promises.specs.Keeping.{Made, empty, added, renewed}
 use Rattle.renewal_promises.proofs.Finding.{slot_held, slot_none, held_slot, home_own}
 use Rattle.renewal_promises.proofs.Added as adding
 use Rattle.renewal_promises.proofs.Renewed as renewing
+use Rattle.terms.specs.declared.Refusal.{Refusal}
+use Rattle.renewal.specs.declared.Renewed.{Renewed}
+use Rattle.renewal.specs.declared.Renewed.TheVariants.{Lives, Dropped}
 
 -- a name is held where the row says so
 pub held_row : (t u : Rows) (recording place j : ℕ) → row u j ≡ row t j → HeldAt u recording place j → HeldAt t recording place j
@@ -37,16 +37,16 @@ not_dropped t t' k d recording place held = held.1 (ap (λ (e : List ℕ). get_o
 -- ---- 64 slots
 
 module _ (t : Rows) where
-  added_long : (r : EntryAdd) (e : Entry) → length (table_added r t e) ≡ length t
+  added_long : (r : Result ℕ Refusal) (e : Entry) → length (table_added r t e) ≡ length t
   unfolding table_added
-  added_long (Added k) e = length-set t k e
-  added_long (Unadded f) e = refl
+  added_long (Ok k) e = length-set t k e
+  added_long (Err f) e = refl
 
-  renewed_long : (r : EntryRenewal) (k : ℕ) → length (table_renewed r t k) ≡ length t
+  renewed_long : (r : Result Renewed Refusal) (k : ℕ) → length (table_renewed r t k) ≡ length t
   unfolding table_renewed
-  renewed_long Lives k = refl
-  renewed_long (Dropped f) k = length-set t k no_entry
-  renewed_long (Unrenewed f) k = refl
+  renewed_long (Ok Lives) k = refl
+  renewed_long (Ok (Dropped f)) k = length-set t k no_entry
+  renewed_long (Err f) k = refl
 
 pub slots : (t : Rows) → Made t → length t ≡ 64
 slots _ empty = refl
@@ -93,7 +93,7 @@ put_name t t' store store' recording place buf start p k put recording' place' (
     (sym (ap (λ (e : List ℕ). get_or e 1 0) put.entry) ∙ number, sym (ap (λ (e : List ℕ). get_or e 2 0) put.entry) ∙ there)
 
 module _ (t : Rows) (all : length t ≡ 64) (single : Single t) (store : List ℕ) (recording place : ℕ) (buf : List ℕ) (start end : ℕ) where
-  single_add : (r : EntryAdd) (t' : Rows) (store' : List ℕ) → Add t store recording place buf start end r t' store' → Single t'
+  single_add : (r : Result ℕ Refusal) (t' : Rows) (store' : List ℕ) → Add t store recording place buf start end r t' store' → Single t'
   single_add r t' store' call =
       ⊎_elim
       (λ kept. subst Single (sym kept.0) single)
@@ -104,7 +104,7 @@ module _ (t : Rows) (all : length t ≡ 64) (single : Single t) (store : List �
       (subst (λ (m : ℕ). ¬ HeldAt t recording m k) name.1 (home_alone t all single recording place k other))))
       (adding.effect t all store recording place buf start end r t' store' call)
 
-  single_renew : (r : EntryRenewal) (t' : Rows) → Renew t store recording place buf start end r t' → Single t'
+  single_renew : (r : Result Renewed Refusal) (t' : Rows) → Renew t store recording place buf start end r t' → Single t'
   single_renew r t' call =
       ⊎_elim
       (λ kept. subst Single (sym kept) single)
@@ -124,7 +124,7 @@ once _ (renewed {t} {t'} m store recording place buf start end r call) = single_
 
 -- ---- what is withdrawn is gone
 
-module _ (t : Rows) (made : Made t) (store : List ℕ) (recording place : ℕ) (buf : List ℕ) (start end : ℕ) (r : EntryRenewal) (t' : Rows)
+module _ (t : Rows) (made : Made t) (store : List ℕ) (recording place : ℕ) (buf : List ℕ) (start end : ℕ) (r : Result Renewed Refusal) (t' : Rows)
     (call : Renew t store recording place buf start end r t') (room : 65536 ≤ length store) (window : Within buf start end place)
     (away : (k : ℕ) → HeldAt t recording place k → ¬ Equals t store k buf start end place) where
   abbrev all : length t ≡ 64
@@ -159,7 +159,7 @@ module _ (t : Rows) (made : Made t) (store : List ℕ) (recording place : ℕ) (
 
 -- ---- of a name held twice the other entry stays
 
-pub second : (t : Rows) → length t ≡ 64 → (store : List ℕ) (recording place : ℕ) (buf : List ℕ) (start end : ℕ) (r : EntryRenewal) (t' : Rows)
+pub second : (t : Rows) → length t ≡ 64 → (store : List ℕ) (recording place : ℕ) (buf : List ℕ) (start end : ℕ) (r : Result Renewed Refusal) (t' : Rows)
     → Renew t store recording place buf start end r t'
     → (k : ℕ) → First (HeldAt t recording place) k → (j : ℕ) → j ≢ k → HeldAt t recording place j → HeldAt t' recording place j
 second t all store recording place buf start end r t' call k first j other held =

@@ -1,4 +1,5 @@
 -- What renewing says and leaves behind.
+use Rattle.std.specs.Prelude.{Result, Ok, Err}
 use mathlib.Core.Path.{◌≡◌, refl, sym, ap, subst, ◌∙◌}
 use mathlib.Core.List.{List, []}
 use mathlib.Core.Bool.{Bool, true, false, not, true≢false}
@@ -18,8 +19,6 @@ use Rattle.terms.specs.Refusals.{no_refusal}
 use Rattle.terms.specs.declared.Refusal.{Refusal}
 use Rattle.packet.specs.Read.{inside, window, read_packet, packet_told}
 use Rattle.packet.specs.declared.Packet.{Packet}
-use Rattle.packet.specs.declared.PacketRead.{PacketRead}
-use Rattle.packet.specs.declared.PacketRead.TheVariants.{Accepted, Refused}
 use Rattle.packet.proofs.Passes.{inside_made}
 use Rattle.packet.proofs.Told.{refusal_numbered}
 use Rattle.promises.specs.Refusals.{OneOf, reader_refusals}
@@ -30,19 +29,19 @@ use Rattle.promises.proofs.Places.{places}
 use Rattle.promises.proofs.Ends.{accepted_is}
 use Rattle.renewal.specs.Table.{no_entry, slot_of}
 use Rattle.renewal.specs.Renewal.{barred, store_small, own_bytes, holds, judged, renew_entry, table_renewed, renew_told}
-use Rattle.renewal.specs.declared.EntryRenewal.{EntryRenewal}
-use Rattle.renewal.specs.declared.EntryRenewal.TheVariants.{Lives, Dropped, Unrenewed}
 use Rattle.renewal_promises.specs.Slots.{Rows, word, Equals}
 use Rattle.renewal_promises.specs.Adding.{small_store}
 use Rattle.renewal_promises.specs.Renewing.{renew_refusals, causes, refused_told, NoneOr, Drops, Judged, Renewing}
 use Rattle.renewal_promises.specs.Calls.{Renew}
 use Rattle.renewal_promises.proofs.Finding.{held_slot, none_slot, held_below}
 use Rattle.renewal_promises.proofs.Added.{barred_there, small_there, own_bytes_lem, own_long, not_both, one_packet, told_accepted}
+use Rattle.renewal.specs.declared.Renewed.{Renewed}
+use Rattle.renewal.specs.declared.Renewed.TheVariants.{Lives, Dropped}
 
 -- ---- the held bytes
 
 module _ (t : Rows) (store : List ℕ) (k : ℕ) (room : 65536 ≤ length store) (slot : k < 64) (buf : List ℕ) (start end place : ℕ) (p : Packet)
-    (read : read_packet buf start end place ≡ Accepted p) where
+    (read : read_packet buf start end place ≡ Ok p) where
   pub held_equals : holds store k (word t k 3) (own_bytes (window buf start end)) ≡ true → Equals t store k buf start end place
   unfolding holds
   held_equals h =
@@ -74,54 +73,54 @@ module _ (t : Rows) (store : List ℕ) (recording place : ℕ) (buf : List ℕ) 
   abbrev home : ℕ
   home = slot_of recording place t
 
-  pub data Way : EntryRenewal → Type 0 where
-    small : length store < 65536 → Way (Unrenewed (small_store start place))
-    absent : 65536 ≤ length store → 64 ≤ home → Way (Unrenewed (refused_there 20 start place))
-    outside : 65536 ≤ length store → home < 64 → inside buf start end place ≡ false → Way (Unrenewed (refused_there 1 start place))
-    refused : 65536 ≤ length store → home < 64 → inside buf start end place ≡ true → (f : Refusal) → read_packet buf start end place ≡ Refused f → Way (Dropped f)
-    lives : 65536 ≤ length store → home < 64 → inside buf start end place ≡ true → (p : Packet) → read_packet buf start end place ≡ Accepted p
-        → holds store home (word t home 3) (own_bytes (window buf start end)) ≡ true → Way Lives
-    differs : 65536 ≤ length store → home < 64 → inside buf start end place ≡ true → (p : Packet) → read_packet buf start end place ≡ Accepted p
-        → holds store home (word t home 3) (own_bytes (window buf start end)) ≡ false → Way (Dropped no_refusal)
+  pub data Way : Result Renewed Refusal → Type 0 where
+    small : length store < 65536 → Way (Err (small_store start place))
+    absent : 65536 ≤ length store → 64 ≤ home → Way (Err (refused_there 20 start place))
+    outside : 65536 ≤ length store → home < 64 → inside buf start end place ≡ false → Way (Err (refused_there 1 start place))
+    refused : 65536 ≤ length store → home < 64 → inside buf start end place ≡ true → (f : Refusal) → read_packet buf start end place ≡ Err f → Way (Ok (Dropped f))
+    lives : 65536 ≤ length store → home < 64 → inside buf start end place ≡ true → (p : Packet) → read_packet buf start end place ≡ Ok p
+        → holds store home (word t home 3) (own_bytes (window buf start end)) ≡ true → Way (Ok Lives)
+    differs : 65536 ≤ length store → home < 64 → inside buf start end place ≡ true → (p : Packet) → read_packet buf start end place ≡ Ok p
+        → holds store home (word t home 3) (own_bytes (window buf start end)) ≡ false → Way (Ok (Dropped no_refusal))
 
   pub way : Way (renew_entry t store recording place buf start end)
   unfolding renew_entry judged
   way = go (ltb (length store) 65536) refl
     where
-      held : 65536 ≤ length store → home < 64 → inside buf start end place ≡ true → (p : Packet) → read_packet buf start end place ≡ Accepted p
-          → (b : Bool) → holds store home (word t home 3) (own_bytes (window buf start end)) ≡ b → Way (pick b Lives (Dropped no_refusal))
+      held : 65536 ≤ length store → home < 64 → inside buf start end place ≡ true → (p : Packet) → read_packet buf start end place ≡ Ok p
+          → (b : Bool) → holds store home (word t home 3) (own_bytes (window buf start end)) ≡ b → Way (pick b (Ok Lives) (Ok (Dropped no_refusal)))
       held room slot i p read true h = lives room slot i p read h
       held room slot i p read false h = differs room slot i p read h
 
-      reads : 65536 ≤ length store → home < 64 → inside buf start end place ≡ true → (x : PacketRead) → read_packet buf start end place ≡ x
+      reads : 65536 ≤ length store → home < 64 → inside buf start end place ≡ true → (x : Result Packet Refusal) → read_packet buf start end place ≡ x
           → Way (judged x store home (word t home 3) (window buf start end))
-      reads room slot i (Refused f) read = refused room slot i f read
-      reads room slot i (Accepted p) read = held room slot i p read (holds store home (word t home 3) (own_bytes (window buf start end))) refl
+      reads room slot i (Err f) read = refused room slot i f read
+      reads room slot i (Ok p) read = held room slot i p read (holds store home (word t home 3) (own_bytes (window buf start end))) refl
 
       windows : 65536 ≤ length store → home < 64 → (b : Bool) → inside buf start end place ≡ b
-          → Way (pick (not b) (Unrenewed (barred 1 start place)) (judged (read_packet buf start end place) store home (word t home 3) (window buf start end)))
+          → Way (pick (not b) (Err (barred 1 start place)) (judged (read_packet buf start end place) store home (word t home 3) (window buf start end)))
       windows room slot true i = reads room slot i (read_packet buf start end place) refl
       windows room slot false i = rw (barred_there 1 start place) (outside room slot i)
 
       slots : 65536 ≤ length store → (b : Bool) → leb 64 home ≡ b
-          → Way (pick b (Unrenewed (barred 20 start place))
-          (pick (not (inside buf start end place)) (Unrenewed (barred 1 start place)) (judged (read_packet buf start end place) store home (word t home 3) (window buf start end))))
+          → Way (pick b (Err (barred 20 start place))
+          (pick (not (inside buf start end place)) (Err (barred 1 start place)) (judged (read_packet buf start end place) store home (word t home 3) (window buf start end))))
       slots room true h = rw (barred_there 20 start place) (absent room (leb-true 64 home h))
       slots room false h = windows room (leb-false 64 home h) (inside buf start end place) refl
 
       go : (b : Bool) → ltb (length store) 65536 ≡ b
-          → Way (pick b (Unrenewed (store_small start place)) (pick (leb 64 home) (Unrenewed (barred 20 start place))
-          (pick (not (inside buf start end place)) (Unrenewed (barred 1 start place)) (judged (read_packet buf start end place) store home (word t home 3) (window buf start end)))))
+          → Way (pick b (Err (store_small start place)) (pick (leb 64 home) (Err (barred 20 start place))
+          (pick (not (inside buf start end place)) (Err (barred 1 start place)) (judged (read_packet buf start end place) store home (word t home 3) (window buf start end)))))
       go true h = rw (small_there start place) (small (ltb-true (length store) 65536 h))
       go false h = slots (ltb-false (length store) 65536 h) (leb 64 home) refl
 
 -- ---- it in words
 
 module _ (t : Rows) (all : length t ≡ 64) (store : List ℕ) (recording place : ℕ) (buf : List ℕ) (start end : ℕ) where
-  abbrev Goes : EntryRenewal → Type 0
+  abbrev Goes : Result Renewed Refusal → Type 0
   Goes = Way t store recording place buf start end
 
-  told_ends : (r : EntryRenewal) → Goes r → NoneOr renew_refusals (renew_told r).refusal
+  told_ends : (r : Result Renewed Refusal) → Goes r → NoneOr renew_refusals (renew_told r).refusal
   told_ends _ (small h) = inr (inl refl)
   told_ends _ (absent room none) = inr (inr (inl refl))
   told_ends _ (outside room slot o) = inr (inr (inr (inl refl)))
@@ -129,20 +128,20 @@ module _ (t : Rows) (all : length t ≡ 64) (store : List ℕ) (recording place 
   told_ends _ (lives room slot i p read h) = inl refl
   told_ends _ (differs room slot i p read h) = inl refl
 
-  told_cause : (r : EntryRenewal) → Goes r → NoneOr causes (renew_told r).cause
+  told_cause : (r : Result Renewed Refusal) → Goes r → NoneOr causes (renew_told r).cause
   told_cause _ (small h) = inl refl
   told_cause _ (absent room none) = inl refl
   told_cause _ (outside room slot o) = inl refl
   told_cause _ (refused room slot i f read) =
       let numbered : OneOf f.number reader_refusals = rw read at (read_numbered buf start end place (rw read (refusal_numbered buf start end place f read))) in
       inr (⊎_elim
-      (λ one. absurd (places.read_within buf start end place (inside_within buf start end place i) (ap (λ (x : PacketRead). (packet_told x).refusal.number) read ∙ one)))
+      (λ one. absurd (places.read_within buf start end place (inside_within buf start end place i) (ap (λ (x : Result Packet Refusal). (packet_told x).refusal.number) read ∙ one)))
       (λ o. o)
       numbered)
   told_cause _ (lives room slot i p read h) = inl refl
   told_cause _ (differs room slot i p read h) = inl refl
 
-  told_small : (r : EntryRenewal) → Goes r → length store < 65536 → renew_told r ≡ refused_told (small_store start place)
+  told_small : (r : Result Renewed Refusal) → Goes r → length store < 65536 → renew_told r ≡ refused_told (small_store start place)
   told_small _ (small h) l = refl
   told_small _ (absent room none) l = absurd (omega arith)
   told_small _ (outside room slot o) l = absurd (omega arith)
@@ -150,7 +149,7 @@ module _ (t : Rows) (all : length t ≡ 64) (store : List ℕ) (recording place 
   told_small _ (lives room slot i p read h) l = absurd (omega arith)
   told_small _ (differs room slot i p read h) l = absurd (omega arith)
 
-  told_absent : (r : EntryRenewal) → Goes r → 65536 ≤ length store → 64 ≤ slot_of recording place t → renew_told r ≡ refused_told (refused_there 20 start place)
+  told_absent : (r : Result Renewed Refusal) → Goes r → 65536 ≤ length store → 64 ≤ slot_of recording place t → renew_told r ≡ refused_told (refused_there 20 start place)
   told_absent _ (small h) room none = absurd (omega arith)
   told_absent _ (absent _ _) room none = refl
   told_absent _ (outside _ slot o) room none = absurd (omega arith)
@@ -158,7 +157,7 @@ module _ (t : Rows) (all : length t ≡ 64) (store : List ℕ) (recording place 
   told_absent _ (lives _ slot i p read h) room none = absurd (omega arith)
   told_absent _ (differs _ slot i p read h) room none = absurd (omega arith)
 
-  told_outside : (r : EntryRenewal) → Goes r → 65536 ≤ length store → slot_of recording place t < 64 → inside buf start end place ≡ false
+  told_outside : (r : Result Renewed Refusal) → Goes r → 65536 ≤ length store → slot_of recording place t < 64 → inside buf start end place ≡ false
       → renew_told r ≡ refused_told (refused_there 1 start place)
   told_outside _ (small h) room slot o = absurd (omega arith)
   told_outside _ (absent _ none) room slot o = absurd (omega arith)
@@ -167,18 +166,18 @@ module _ (t : Rows) (all : length t ≡ 64) (store : List ℕ) (recording place 
   told_outside _ (lives _ _ i p read h) room slot o = absurd (true≢false (sym i ∙ o))
   told_outside _ (differs _ _ i p read h) room slot o = absurd (true≢false (sym i ∙ o))
 
-  told_untouched : (r : EntryRenewal) (t' : Rows) → t' ≡ table_renewed r t (slot_of recording place t) → (renew_told r).refusal.number ≢ 0 → t' ≡ t
+  told_untouched : (r : Result Renewed Refusal) (t' : Rows) → t' ≡ table_renewed r t (slot_of recording place t) → (renew_told r).refusal.number ≢ 0 → t' ≡ t
   unfolding table_renewed
-  told_untouched Lives t' is some = absurd (some refl)
-  told_untouched (Dropped f) t' is some = absurd (some refl)
-  told_untouched (Unrenewed f) t' is some = is
+  told_untouched (Ok Lives) t' is some = absurd (some refl)
+  told_untouched (Ok (Dropped f)) t' is some = absurd (some refl)
+  told_untouched (Err f) t' is some = is
 
-  told_lives : (r : EntryRenewal) → (renew_told r).lives ≡ 1 → r ≡ Lives
-  told_lives Lives one = refl
-  told_lives (Dropped f) one = absurd (omega (arith, one))
-  told_lives (Unrenewed f) one = absurd (omega (arith, one))
+  told_lives : (r : Result Renewed Refusal) → (renew_told r).lives ≡ 1 → r ≡ (Ok Lives)
+  told_lives (Ok Lives) one = refl
+  told_lives (Ok (Dropped f)) one = absurd (omega (arith, one))
+  told_lives (Err f) one = absurd (omega (arith, one))
 
-  told_dropped : (r : EntryRenewal) → Goes r → (renew_told r).refusal.number ≡ 0 → (renew_told r).lives ≢ 1 → r ≡ Dropped (renew_told r).cause
+  told_dropped : (r : Result Renewed Refusal) → Goes r → (renew_told r).refusal.number ≡ 0 → (renew_told r).lives ≢ 1 → r ≡ Ok (Dropped (renew_told r).cause)
   told_dropped _ (small h) z not-one = absurd (omega (arith, z))
   told_dropped _ (absent room none) z not-one = absurd (omega (arith, z))
   told_dropped _ (outside room slot o) z not-one = absurd (omega (arith, z))
@@ -186,10 +185,10 @@ module _ (t : Rows) (all : length t ≡ 64) (store : List ℕ) (recording place 
   told_dropped _ (lives room slot i p read h) z not-one = absurd (not-one refl)
   told_dropped _ (differs room slot i p read h) z not-one = refl
 
-  told_refused : (r : EntryRenewal) → (renew_told r).refusal.number ≢ 0 → r ≡ Unrenewed (renew_told r).refusal
-  told_refused Lives some = absurd (some refl)
-  told_refused (Dropped f) some = absurd (some refl)
-  told_refused (Unrenewed f) some = refl
+  told_refused : (r : Result Renewed Refusal) → (renew_told r).refusal.number ≢ 0 → r ≡ Err (renew_told r).refusal
+  told_refused (Ok Lives) some = absurd (some refl)
+  told_refused (Ok (Dropped f)) some = absurd (some refl)
+  told_refused (Err f) some = refl
 
   -- ---- the judgement
 
@@ -201,10 +200,10 @@ module _ (t : Rows) (all : length t ≡ 64) (store : List ℕ) (recording place 
         slots = length-set t k no_entry;
       }
 
-  abbrev Judges : ℕ → EntryRenewal → Type 0
+  abbrev Judges : ℕ → Result Renewed Refusal → Type 0
   Judges k r = Judged t store recording place buf start end k r (table_renewed r t k)
 
-  judge_refused : (k : ℕ) → k < 64 → (f : Refusal) → read_packet buf start end place ≡ Refused f → Judges k (Dropped f)
+  judge_refused : (k : ℕ) → k < 64 → (f : Refusal) → read_packet buf start end place ≡ Err f → Judges k (Ok (Dropped f))
   unfolding table_renewed
   judge_refused k slot f read =
       record {
@@ -213,11 +212,11 @@ module _ (t : Rows) (all : length t ≡ 64) (store : List ℕ) (recording place 
         stays = λ one. absurd (omega (arith, one));
         dropped = λ not-one. (refl, drops k slot);
         forged = λ long. (refl, drops k slot);
-        cause = ap (λ (x : PacketRead). (packet_told x).refusal) (sym read);
+        cause = ap (λ (x : Result Packet Refusal). (packet_told x).refusal) (sym read);
       }
 
-  judge_lives : (k : ℕ) → k < 64 → 65536 ≤ length store → (p : Packet) → read_packet buf start end place ≡ Accepted p
-      → holds store k (word t k 3) (own_bytes (window buf start end)) ≡ true → Judges k Lives
+  judge_lives : (k : ℕ) → k < 64 → 65536 ≤ length store → (p : Packet) → read_packet buf start end place ≡ Ok p
+      → holds store k (word t k 3) (own_bytes (window buf start end)) ≡ true → Judges k (Ok Lives)
   unfolding table_renewed
   judge_lives k slot room p read h =
       let e = held_equals t store k room slot buf start end place p read h in
@@ -227,11 +226,11 @@ module _ (t : Rows) (all : length t ≡ 64) (store : List ℕ) (recording place 
         stays = λ one. refl;
         dropped = λ not-one. absurd (not-one refl);
         forged = λ long. absurd (omega (arith, e.long, e.short));
-        cause = ap (λ (x : PacketRead). (packet_told x).refusal) (sym read);
+        cause = ap (λ (x : Result Packet Refusal). (packet_told x).refusal) (sym read);
       }
 
-  judge_differs : (k : ℕ) → k < 64 → 65536 ≤ length store → (p : Packet) → read_packet buf start end place ≡ Accepted p
-      → holds store k (word t k 3) (own_bytes (window buf start end)) ≡ false → Judges k (Dropped no_refusal)
+  judge_differs : (k : ℕ) → k < 64 → 65536 ≤ length store → (p : Packet) → read_packet buf start end place ≡ Ok p
+      → holds store k (word t k 3) (own_bytes (window buf start end)) ≡ false → Judges k (Ok (Dropped no_refusal))
   unfolding table_renewed
   judge_differs k slot room p read h =
       record {
@@ -240,10 +239,10 @@ module _ (t : Rows) (all : length t ≡ 64) (store : List ℕ) (recording place 
         stays = λ one. absurd (omega (arith, one));
         dropped = λ not-one. (refl, drops k slot);
         forged = λ long. (refl, drops k slot);
-        cause = ap (λ (x : PacketRead). (packet_told x).refusal) (sym read);
+        cause = ap (λ (x : Result Packet Refusal). (packet_told x).refusal) (sym read);
       }
 
-  pub judges : (r : EntryRenewal) → Goes r → 65536 ≤ length store → slot_of recording place t < 64 → inside buf start end place ≡ true
+  pub judges : (r : Result Renewed Refusal) → Goes r → 65536 ≤ length store → slot_of recording place t < 64 → inside buf start end place ≡ true
       → Judges (slot_of recording place t) r
   judges _ (small h) room slot i = absurd (omega arith)
   judges _ (absent _ none) room slot i = absurd (omega arith)
@@ -253,7 +252,7 @@ module _ (t : Rows) (all : length t ≡ 64) (store : List ℕ) (recording place 
   judges _ (differs _ _ _ p read h) room slot i = judge_differs (slot_of recording place t) slot room p read h
 
   -- everything that is promised of it
-  pub renews : (r : EntryRenewal) (t' : Rows) → Renew t store recording place buf start end r t' → Renewing t store recording place buf start end r t'
+  pub renews : (r : Result Renewed Refusal) (t' : Rows) → Renew t store recording place buf start end r t' → Renewing t store recording place buf start end r t'
   renews r t' (is, ti) =
       let said : Goes r = rw is (way t store recording place buf start end) in
       record {
@@ -278,11 +277,11 @@ module _ (t : Rows) (all : length t ≡ 64) (store : List ℕ) (recording place 
     pub slot : slot_of recording place t < 64
     pub drops : Drops t (slot_of recording place t) t'
 
-  pub effect : (r : EntryRenewal) (t' : Rows) → Renew t store recording place buf start end r t' → (t' ≡ t) ⊎ DropsHome t'
+  pub effect : (r : Result Renewed Refusal) (t' : Rows) → Renew t store recording place buf start end r t' → (t' ≡ t) ⊎ DropsHome t'
   unfolding table_renewed
   effect r t' (is, ti) = go r (rw is (way t store recording place buf start end)) ti
     where
-      go : (x : EntryRenewal) → Goes x → t' ≡ table_renewed x t (slot_of recording place t) → (t' ≡ t) ⊎ DropsHome t'
+      go : (x : Result Renewed Refusal) → Goes x → t' ≡ table_renewed x t (slot_of recording place t) → (t' ≡ t) ⊎ DropsHome t'
       go _ (small h) ti = inl ti
       go _ (absent room none) ti = inl ti
       go _ (outside room slot o) ti = inl ti

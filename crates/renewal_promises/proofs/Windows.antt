@@ -1,4 +1,5 @@
 -- Nothing outside the window has a say.
+use Rattle.std.specs.Prelude.{Result, Ok, Err}
 use mathlib.Core.Path.{◌≡◌, refl, sym, ap, subst, ◌∙◌}
 use mathlib.Core.List.{List}
 use mathlib.Core.Bool.{Bool, true, false}
@@ -12,8 +13,6 @@ use Rattle.units.specs.Units.{part}
 use Rattle.terms.specs.declared.Refusal.{Refusal}
 use Rattle.packet.specs.Read.{window, packet_in, read_packet, packet_told}
 use Rattle.packet.specs.declared.Packet.{Packet}
-use Rattle.packet.specs.declared.PacketRead.{PacketRead}
-use Rattle.packet.specs.declared.PacketRead.TheVariants.{Accepted, Refused}
 use Rattle.packet.proofs.Passes.{inside_made, inside_same, PassedBytes}
 use Rattle.packet.proofs.Own.{packet_in_length, accepted_at, at_accepted}
 use Rattle.packet.proofs.Told.{refusal_numbered}
@@ -25,10 +24,6 @@ use Rattle.promises.proofs.Refusing.{all_lines, number_is}
 use Rattle.promises.proofs.Ends.{accepted_is}
 use Rattle.renewal.specs.Table.{no_entry, slot_of, home_of}
 use Rattle.renewal.specs.Renewal.{add_entry, entry_in, own_bytes, AddTold, add_told, renew_entry, table_renewed, RenewTold, renew_told}
-use Rattle.renewal.specs.declared.EntryAdd.{EntryAdd}
-use Rattle.renewal.specs.declared.EntryAdd.TheVariants.{Added, Unadded}
-use Rattle.renewal.specs.declared.EntryRenewal.{EntryRenewal}
-use Rattle.renewal.specs.declared.EntryRenewal.TheVariants.{Dropped}
 use Rattle.renewal_promises.specs.Slots.{Rows, Equals}
 use Rattle.renewal_promises.specs.Adding.{small_store, Comes, Adding}
 use Rattle.renewal_promises.specs.Renewing.{refused_told, Judged, Renewing}
@@ -37,12 +32,14 @@ use Rattle.renewal_promises.proofs.Finding.{slot_held, slot_none}
 use Rattle.renewal_promises.proofs.Added as adding
 use Rattle.renewal_promises.proofs.Added.{own_bytes_lem, told_accepted}
 use Rattle.renewal_promises.proofs.Renewed.{renews}
+use Rattle.renewal.specs.declared.Renewed.{Renewed}
+use Rattle.renewal.specs.declared.Renewed.TheVariants.{Dropped}
 
 -- ---- two buffers that both reach to the end, with the same bytes from start to it
 
 module _ (t : Rows) (store : List ℕ) (recording place : ℕ) (a b : List ℕ) (start end : ℕ) (in_a : end ≤ length a) (in_b : end ≤ length b)
     (same : window a start end ≡ window b start end) where
-  pub add_inside : (r q : EntryAdd) (t₁ t₂ : Rows) (store₁ store₂ : List ℕ) → Add t store recording place a start end r t₁ store₁
+  pub add_inside : (r q : Result ℕ Refusal) (t₁ t₂ : Rows) (store₁ store₂ : List ℕ) → Add t store recording place a start end r t₁ store₁
       → Add t store recording place b start end q t₂ store₂ → (r ≡ q) × (t₁ ≡ t₂) × (store₁ ≡ store₂)
   unfolding add_entry
   add_inside r q t₁ t₂ store₁ store₂ (ra, ta, sa) (rb, tb, sb) =
@@ -52,7 +49,7 @@ module _ (t : Rows) (store : List ℕ) (recording place : ℕ) (a b : List ℕ) 
         sa ∙ rw (told, same) (sym sb),
       )
 
-  pub renew_inside : (r q : EntryRenewal) (t₁ t₂ : Rows) → Renew t store recording place a start end r t₁ → Renew t store recording place b start end q t₂
+  pub renew_inside : (r q : Result Renewed Refusal) (t₁ t₂ : Rows) → Renew t store recording place a start end r t₁ → Renew t store recording place b start end q t₂
       → (r ≡ q) × (t₁ ≡ t₂)
   unfolding renew_entry
   renew_inside r q t₁ t₂ (ra, ta) (rb, tb) =
@@ -63,7 +60,7 @@ module _ (t : Rows) (store : List ℕ) (recording place : ℕ) (a b : List ℕ) 
 
 -- the packet there
 module _ (a b : List ℕ) (s e s' e' place : ℕ) (in_b : Within b s' e' place) (same : window a s e ≡ window b s' e') where
-  pub read_elsewhere : (p : Packet) → read_packet a s e place ≡ Accepted p → (q : Packet) × (read_packet b s' e' place ≡ Accepted q) × (q.length ≡ p.length)
+  pub read_elsewhere : (p : Packet) → read_packet a s e place ≡ Ok p → (q : Packet) × (read_packet b s' e' place ≡ Ok q) × (q.length ≡ p.length)
   read_elsewhere p read =
       let at = accepted_at a s e place p read in
       let w = window b s' e' in
@@ -95,7 +92,7 @@ module _ (a b : List ℕ) (s e s' e' place : ℕ) (in_b : Within b s' e' place) 
       }
 
 module _ (t : Rows) (all : length t ≡ 64) (store : List ℕ) (recording place : ℕ) (a b : List ℕ) (s e s' e' : ℕ) (in_a : Within a s e place) (in_b : Within b s' e' place)
-    (same : window a s e ≡ window b s' e') (r q : EntryRenewal) (t₁ t₂ : Rows) (call-a : Renew t store recording place a s e r t₁)
+    (same : window a s e ≡ window b s' e') (r q : Result Renewed Refusal) (t₁ t₂ : Rows) (call-a : Renew t store recording place a s e r t₁)
     (call-b : Renew t store recording place b s' e' q t₂) where
   abbrev Alike : Type 0
   Alike =
@@ -115,7 +112,7 @@ module _ (t : Rows) (all : length t ≡ 64) (store : List ℕ) (recording place 
       )
 
   -- a table whose entry of the name is dropped
-  after_drop : (x : EntryRenewal) (u : Rows) (f : Refusal) → u ≡ table_renewed x t (slot_of recording place t) → x ≡ Dropped f → u ≡ set t (slot_of recording place t) no_entry
+  after_drop : (x : Result Renewed Refusal) (u : Rows) (f : Refusal) → u ≡ table_renewed x t (slot_of recording place t) → x ≡ Ok (Dropped f) → u ≡ set t (slot_of recording place t) no_entry
   unfolding table_renewed
   after_drop x u f is drop = is ∙ rw drop
 
@@ -179,7 +176,7 @@ entry_elsewhere recording place a b s e s' e' same = rw same
 
 module _ (t : Rows) (all : length t ≡ 64) (store : List ℕ) (recording place : ℕ) where
   -- what one window is refused for the other is too
-  only_one : (a b : List ℕ) (s e s' e' : ℕ) → Within a s e place → window b s' e' ≡ window a s e → (r q : EntryAdd) (t₁ t₂ : Rows) (store₁ store₂ : List ℕ)
+  only_one : (a b : List ℕ) (s e s' e' : ℕ) → Within a s e place → window b s' e' ≡ window a s e → (r q : Result ℕ Refusal) (t₁ t₂ : Rows) (store₁ store₂ : List ℕ)
       → Add t store recording place a s e r t₁ store₁ → (add_told r).refusal.number ≢ 0 → adding.PutHome t all store recording place b s' e' q t₂ store₂ → ⊥
   only_one a b s e s' e' in_a same r q t₁ t₂ store₁ store₂ (is, ti, si) some put =
       let there = read_elsewhere b a s' e' s e place in_a same put.packet put.read in
@@ -187,11 +184,11 @@ module _ (t : Rows) (all : length t ≡ 64) (store : List ℕ) (recording place 
       let comes : Comes t store recording place a s e there.0 = record { room = put.room; accepted = told_accepted a s e place there.0 there.1; short = omega (arith, there.2, put.short) } in
       some (ap (λ (x : AddTold). x.refusal.number) (adding.told_slot t all store recording place a s e r said there.0 comes (home_of recording place t) (refl, put.slot)))
 
-  refused_slot : (r : EntryAdd) → (add_told r).refusal.number ≢ 0 → (add_told r).slot ≡ 0
-  refused_slot (Added k) some = absurd (some refl)
-  refused_slot (Unadded f) some = refl
+  refused_slot : (r : Result ℕ Refusal) → (add_told r).refusal.number ≢ 0 → (add_told r).slot ≡ 0
+  refused_slot (Ok k) some = absurd (some refl)
+  refused_slot (Err f) some = refl
 
-  module _ (a b : List ℕ) (s e s' e' : ℕ) (in_a : Within a s e place) (in_b : Within b s' e' place) (same : window a s e ≡ window b s' e') (r q : EntryAdd) (t₁ t₂ : Rows)
+  module _ (a b : List ℕ) (s e s' e' : ℕ) (in_a : Within a s e place) (in_b : Within b s' e' place) (same : window a s e ≡ window b s' e') (r q : Result ℕ Refusal) (t₁ t₂ : Rows)
       (store₁ store₂ : List ℕ) (call-a : Add t store recording place a s e r t₁ store₁) (call-b : Add t store recording place b s' e' q t₂ store₂) where
     abbrev number : AddTold → ℕ
     number x = x.refusal.number
@@ -219,10 +216,10 @@ module _ (t : Rows) (all : length t ≡ 64) (store : List ℕ) (recording place 
             ap number (says-a.full p comes (adding.others t all store recording place a s e none))
             ∙ sym (ap number (says-b.full p' comes' (adding.others t all store recording place b s' e' none)))
 
-    one_accepted : SaysA → SaysB → 65536 ≤ length store → (p : Packet) → read_packet a s e place ≡ Accepted p → number (add_told r) ≡ number (add_told q)
+    one_accepted : SaysA → SaysB → 65536 ≤ length store → (p : Packet) → read_packet a s e place ≡ Ok p → number (add_told r) ≡ number (add_told q)
     one_accepted says-a says-b room p read = go (ltb 1024 p.length) refl (read_elsewhere a b s e s' e' place in_b same p read)
       where
-        go : (x : Bool) → ltb 1024 p.length ≡ x → (p' : Packet) × (read_packet b s' e' place ≡ Accepted p') × (p'.length ≡ p.length)
+        go : (x : Bool) → ltb 1024 p.length ≡ x → (p' : Packet) × (read_packet b s' e' place ≡ Ok p') × (p'.length ≡ p.length)
             → number (add_told r) ≡ number (add_told q)
         go true h (p', read', long) =
             let over = ltb-true 1024 p.length h in
@@ -238,15 +235,15 @@ module _ (t : Rows) (all : length t ≡ 64) (store : List ℕ) (recording place 
         go (adding.adds t all store recording place a s e r t₁ store₁ call-a) (adding.adds t all store recording place b s' e' q t₂ store₂ call-b)
         (ltb (length store) 65536) refl (read_packet a s e place) refl
       where
-        go : SaysA → SaysB → (x : Bool) → ltb (length store) 65536 ≡ x → (y : PacketRead) → read_packet a s e place ≡ y → number (add_told r) ≡ number (add_told q)
+        go : SaysA → SaysB → (x : Bool) → ltb (length store) 65536 ≡ x → (y : Result Packet Refusal) → read_packet a s e place ≡ y → number (add_told r) ≡ number (add_told q)
         go says-a says-b true h y read =
             let small = ltb-true (length store) 65536 h in
             ap number (says-a.first small) ∙ sym (ap number (says-b.first small))
-        go says-a says-b false h (Accepted p) read = one_accepted says-a says-b (ltb-false (length store) 65536 h) p read
-        go says-a says-b false h (Refused f) read =
+        go says-a says-b false h (Ok p) read = one_accepted says-a says-b (ltb-false (length store) 65536 h) p read
+        go says-a says-b false h (Err f) read =
             let room = ltb-false (length store) 65536 h in
             let same_number = number_elsewhere a b s e s' e' place in_b same in_a in
-            let is : (packet_told (read_packet a s e place)).refusal.number ≡ f.number = ap (λ (x : PacketRead). (packet_told x).refusal.number) read in
+            let is : (packet_told (read_packet a s e place)).refusal.number ≡ f.number = ap (λ (x : Result Packet Refusal). (packet_told x).refusal.number) read in
             let some : (packet_told (read_packet a s e place)).refusal.number ≢ 0 = λ z. refusal_numbered a s e place f read (sym is ∙ z) in
             ap number (says-a.reader room some) ∙ same_number ∙ sym (ap number (says-b.reader room (λ z. some (same_number ∙ z))))
 
@@ -262,7 +259,7 @@ module _ (t : Rows) (all : length t ≡ 64) (store : List ℕ) (recording place 
         (λ pb.
         let told : r ≡ q = pa.told ∙ sym pb.told in (
           one_number,
-          ap (λ (x : EntryAdd). (add_told x).slot) told,
+          ap (λ (x : Result ℕ Refusal). (add_told x).slot) told,
           call-a.1 ∙ rw (told, entry_elsewhere recording place a b s e s' e' same) (sym call-b.1),
           call-a.2 ∙ rw (told, same) (sym call-b.2),
         ))

@@ -1,5 +1,5 @@
 -- Adding, in §13's words: what is told, which slot is taken, and what table and store hold afterwards.
-use Rattle.std.specs.Prelude.{◌≡◌, List, [], ◌∷◌, ◌++◌, ◌⊎◌, ◌≢◌, ℕ, ◌+◌, ◌*◌, ◌≤◌, ◌<◌, length}
+use Rattle.std.specs.Prelude.{◌≡◌, List, [], ◌∷◌, ◌++◌, ◌⊎◌, ◌≢◌, ℕ, ◌+◌, ◌*◌, ◌≤◌, ◌<◌, length, Result, Ok, Err}
 use Rattle.units.specs.Units.{part}
 use Rattle.terms.specs.Refusals.{no_refusal}
 use Rattle.terms.specs.declared.Refusal.{Refusal}
@@ -9,8 +9,6 @@ use Rattle.packet.specs.declared.Packet.{Packet}
 use Rattle.promises.specs.Refusals.{reader_refusals}
 use Rattle.promises.specs.Endings.{Ends, refused_there}
 use Rattle.renewal.specs.Renewal.{AddTold, add_told}
-use Rattle.renewal.specs.declared.EntryAdd.{EntryAdd}
-use Rattle.renewal.specs.declared.EntryAdd.TheVariants.{Added, Unadded}
 use Rattle.renewal_promises.specs.Slots.{Rows, row, LiveAt, FreeAt, HeldAt, First, Accepts}
 
 -- "16 first, ..; adding, then the reader's, 21 .., 19 .."
@@ -47,7 +45,7 @@ module _ (t : Rows) (store : List ℕ) (recording place : ℕ) (buf : List ℕ) 
     pub accepted : Accepts buf start end place p
     pub short : p.length ≤ 1024
 
-  pub record Adding (r : EntryAdd) (t' : Rows) (store' : List ℕ) : Type 0 where
+  pub record Adding (r : Result ℕ Refusal) (t' : Rows) (store' : List ℕ) : Type 0 where
     -- a slot and no refusal, or one of these refusals and nothing else
     pub ends : Ends add_refusals added_told 0 (add_told r)
     -- "16 first, for a store under 65,536 bytes"
@@ -70,5 +68,5 @@ module _ (t : Rows) (store : List ℕ) (recording place : ℕ) (buf : List ℕ) 
     -- "Refusals, all leaving table and store as they were"
     pub untouched : (add_told r).refusal.number ≢ 0 → (t' ≡ t) × (store' ≡ store)
     -- the case of the enum is the one that is told
-    pub answers : (add_told r).refusal.number ≡ 0 → r ≡ Added (add_told r).slot
-    pub answers_refused : (add_told r).refusal.number ≢ 0 → r ≡ Unadded (add_told r).refusal
+    pub answers : (add_told r).refusal.number ≡ 0 → r ≡ Ok (add_told r).slot
+    pub answers_refused : (add_told r).refusal.number ≢ 0 → r ≡ Err (add_told r).refusal

@@ -1,5 +1,5 @@
 -- Renewing, in §13's words: what is told, and what the table holds afterwards.
-use Rattle.std.specs.Prelude.{◌≡◌, List, [], ◌∷◌, ◌↔◌, ◌⊎◌, ◌≢◌, ℕ, ◌≤◌, ◌<◌, length}
+use Rattle.std.specs.Prelude.{◌≡◌, List, [], ◌∷◌, ◌↔◌, ◌⊎◌, ◌≢◌, ℕ, ◌≤◌, ◌<◌, length, Result, Ok, Err}
 use Rattle.terms.specs.Refusals.{no_refusal}
 use Rattle.terms.specs.declared.Refusal.{Refusal}
 use Rattle.packet.specs.Read.{read_packet, packet_told}
@@ -7,10 +7,10 @@ use Rattle.promises.specs.Refusals.{OneOf}
 use Rattle.promises.specs.Endings.{refused_there}
 use Rattle.promises.specs.Handed.{Within}
 use Rattle.renewal.specs.Renewal.{RenewTold, renew_told}
-use Rattle.renewal.specs.declared.EntryRenewal.{EntryRenewal}
-use Rattle.renewal.specs.declared.EntryRenewal.TheVariants.{Lives, Dropped, Unrenewed}
 use Rattle.renewal_promises.specs.Slots.{Rows, row, word, HeldAt, First, Equals}
 use Rattle.renewal_promises.specs.Adding.{small_store}
+use Rattle.renewal.specs.declared.Renewed.{Renewed}
+use Rattle.renewal.specs.declared.Renewed.TheVariants.{Lives, Dropped}
 
 -- "16 first, ..; renewing, then 20 .., then 1"
 abbrev pub renew_refusals : List ℕ
@@ -36,7 +36,7 @@ pub record Drops (t : Rows) (k : ℕ) (t' : Rows) : Type 0 where
 
 module _ (t : Rows) (store : List ℕ) (recording place : ℕ) (buf : List ℕ) (start end : ℕ) where
   -- the entry in slot k, by a window in its buffer
-  pub record Judged (k : ℕ) (r : EntryRenewal) (t' : Rows) : Type 0 where
+  pub record Judged (k : ℕ) (r : Result Renewed Refusal) (t' : Rows) : Type 0 where
     pub accepted : (renew_told r).refusal ≡ no_refusal
     -- "The entry lives on exactly when the packet at the window's start is accepted and equals the held bytes"
     pub lives : ((renew_told r).lives ≡ 1) ↔ Equals t store k buf start end place
@@ -48,7 +48,7 @@ module _ (t : Rows) (store : List ℕ) (recording place : ℕ) (buf : List ℕ) 
     -- "The reader's other refusals .. are named beside it": as the one-packet reader gives them, none where it accepts
     pub cause : (renew_told r).cause ≡ (packet_told (read_packet buf start end place)).refusal
 
-  pub record Renewing (r : EntryRenewal) (t' : Rows) : Type 0 where
+  pub record Renewing (r : Result Renewed Refusal) (t' : Rows) : Type 0 where
     pub ends : NoneOr renew_refusals (renew_told r).refusal
     pub named : NoneOr causes (renew_told r).cause
     -- "16 first, for a store under 65,536 bytes"
@@ -62,6 +62,6 @@ module _ (t : Rows) (store : List ℕ) (recording place : ℕ) (buf : List ℕ) 
     -- "Refusals, all leaving table and store as they were"
     pub untouched : (renew_told r).refusal.number ≢ 0 → t' ≡ t
     -- the case of the enum is the one that is told
-    pub answers : (renew_told r).lives ≡ 1 → r ≡ Lives
-    pub answers_dropped : (renew_told r).refusal.number ≡ 0 → (renew_told r).lives ≢ 1 → r ≡ Dropped (renew_told r).cause
-    pub answers_refused : (renew_told r).refusal.number ≢ 0 → r ≡ Unrenewed (renew_told r).refusal
+    pub answers : (renew_told r).lives ≡ 1 → r ≡ (Ok Lives)
+    pub answers_dropped : (renew_told r).refusal.number ≡ 0 → (renew_told r).lives ≢ 1 → r ≡ Ok (Dropped (renew_told r).cause)
+    pub answers_refused : (renew_told r).refusal.number ≢ 0 → r ≡ Err (renew_told r).refusal

@@ -1,13 +1,13 @@
 // 02 §13's promises are theorems: specs/Renewal.antt, on the definitions that the contracts of the renewal table's calls cite. The functions
 // here tie them to the code: each makes one public call, and promises of it what specs/Calls.antt says, and of its table what the theorems
-// ask for: 64 rows, by `slots`. So every theorem applies to every run.
+// ask for: 64 rows. So every theorem applies to every run.
 #![tactic(auto)]
 
 ghost use Rattle.std.specs.Prelude.{◌≡◌, length};
 ghost use Rattle.renewal_promises.specs.Calls.{Empty, Next, Add, Renew};
 
-use renewal::slots::slots;
-use renewal::{EntryAdd, EntryRenewal, Table, add, empty, next_live, renew};
+use renewal::{Renewed, Table, add, empty, next_live, renew};
+use terms::Refusal;
 
 pub fn starts_empty() -> Table
     ensures { Empty result }
@@ -19,7 +19,6 @@ pub fn finds_next(table: &Table, from: usize) -> usize
     ensures next { Next table.now from result }
     ensures table_len { length table.now ≡ 64 }
 {
-    slots(table);
     next_live(table, from)
 }
 
@@ -31,11 +30,10 @@ pub fn adds_entry(
     buf: &[u8],
     start: usize,
     end: usize,
-) -> EntryAdd
+) -> Result<usize, Refusal>
     ensures add { Add table.old store.old recording place buf.now start end result table.new store.new }
     ensures table_len { length table.old ≡ 64 }
 {
-    slots(table);
     add(table, store, recording, place, buf, start, end)
 }
 
@@ -47,10 +45,9 @@ pub fn renews_entry(
     buf: &[u8],
     start: usize,
     end: usize,
-) -> EntryRenewal
+) -> Result<Renewed, Refusal>
     ensures renew { Renew table.old store.now recording place buf.now start end result table.new }
     ensures table_len { length table.old ≡ 64 }
 {
-    slots(table);
     renew(table, store, recording, place, buf, start, end)
 }

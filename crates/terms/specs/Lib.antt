@@ -1,3 +1,4 @@
+pub mod Numbers
 pub mod Refusals
 pub mod Times
 pub mod inner

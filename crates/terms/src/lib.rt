@@ -2,7 +2,8 @@
 #![tactic(auto)]
 
 ghost use Rattle.std.specs.Prelude.{◌≡◌, ◌+◌, ◌-◌, ◌^◌, ◌≤◌, ◌<◌};
-ghost use Rattle.terms.specs.Refusals.{refusal, no_refusal, refused, fault, needing, placed, moved, recorded};
+ghost use Rattle.terms.specs.Numbers.{number_of, reason_of};
+ghost use Rattle.terms.specs.Refusals.{no_refusal, refused, fault, needing, placed, moved, recorded};
 
 pub mod time;
 
@@ -15,8 +16,46 @@ pub enum TimeRule {
     Extended,
 }
 
+// Why a call says no: the numbers of document 01, and of document 02 from 18 on.
+#[derive(Clone, Copy)]
+pub enum Number {
+    State = 1,
+    Short = 2,
+    Sync = 3,
+    HeaderSum = 4,
+    Version = 5,
+    Type = 6,
+    Flags = 7,
+    Channel = 8,
+    Length = 9,
+    Cut = 10,
+    SecondarySum = 11,
+    Secondary = 12,
+    DataSum = 13,
+    Filler = 14,
+    Layout = 15,
+    Room = 16,
+    Range = 17,
+    Full = 19,
+    NoEntry = 20,
+    Long = 21,
+}
+
+// Which rule of its layout an opened body breaks (document 02 §2).
+#[derive(Clone, Copy)]
+pub enum Reason {
+    ChannelWord = 1,
+    CutShort = 2,
+    Time = 3,
+    LengthZero = 4,
+    Pad = 5,
+    LeftOver = 6,
+    Missing = 7,
+}
+
 // A refusal: document 01's number, the reason (15; otherwise 0), the place in the buffer, the room needed (16; otherwise 0), and the
-// place in the recording. The two small numbers stand together, so that there is less to copy.
+// place in the recording. The two small numbers stand together, so that there is less to copy. They stay numbers, as the theorems say
+// them (promises' `Reasons`, `Endings`, `Ahead`) and C gives them; 0 is that of `no_refusal`.
 #[derive(Clone, Copy)]
 pub struct Refusal {
     pub number: u8,
@@ -26,58 +65,85 @@ pub struct Refusal {
     pub recording_place: u64,
 }
 
-// The one place where a refusal's record is made.
-fn make(number: u8, place: usize, room: usize, reason: u8, recording_place: u64) -> Refusal
-    ensures { result ≡ refusal number place room reason recording_place }
-{
-    Refusal {
-        number,
-        place,
-        room,
-        reason,
-        recording_place,
-    }
-}
-
-// A refusal of this number, at this place of the buffer.
-pub fn refuse(number: u8, place: usize) -> Refusal
-    ensures { result ≡ refused number place }
-{
-    make(number, place, 0, 0, 0)
-}
-
 // No refusal: what stands for one where an answer has its place.
 pub fn no_refusal() -> Refusal
     ensures { result ≡ no_refusal }
 {
-    refuse(0, 0)
+    Refusal {
+        number: 0,
+        reason: 0,
+        place: 0,
+        room: 0,
+        recording_place: 0,
+    }
 }
 
-// 15: an opened body breaks its layout there, for this reason.
-pub fn fault(place: usize, reason: u8) -> Refusal
+// A refusal of this number, at this place of the buffer.
+pub fn refuse_number(number: u8, place: usize) -> Refusal
+    ensures { result ≡ refused number place }
+{
+    Refusal {
+        number,
+        place,
+        ..no_refusal()
+    }
+}
+
+// The same, of a number by its name.
+pub fn refuse(number: Number, place: usize) -> Refusal
+    ensures { result ≡ refused (number_of number) place }
+{
+    refuse_number(number as u8, place)
+}
+
+// The same, of a number that a table of tests found.
+pub fn refuse_found(number: Number, place: usize) -> Refusal
+    ensures { result ≡ refused (number_of number) place }
+{
+    refuse_number(byte_of(number), place)
+}
+
+// A number's byte, looked up out of line: in a caller its switch keeps the compiler from inlining that (28-byte-none +32 %).
+#[cold]
+#[inline(never)]
+fn byte_of(number: Number) -> u8
+    ensures { result ≡ number_of number }
+{
+    number as u8
+}
+
+// 15: an opened body breaks its layout there, for the reason of this number.
+pub fn fault_number(place: usize, reason: u8) -> Refusal
     ensures { result ≡ fault place reason }
 {
-    make(15, place, 0, reason, 0)
+    Refusal {
+        reason,
+        ..refuse(Number::Layout, place)
+    }
+}
+
+// The same, of a reason by its name.
+pub fn fault(place: usize, reason: Reason) -> Refusal
+    ensures { result ≡ fault place (reason_of reason) }
+{
+    fault_number(place, reason as u8)
 }
 
 // 16: so much room is needed.
 pub fn no_room(place: usize, room: usize) -> Refusal
     ensures { result ≡ needing room (refused 16 place) }
 {
-    make(16, place, room, 0, 0)
+    Refusal {
+        room,
+        ..refuse(Number::Room, place)
+    }
 }
 
 // The same refusal, at another place.
 pub fn placed(refusal: Refusal, place: usize) -> Refusal
     ensures { result ≡ placed place refusal }
 {
-    make(
-        refusal.number,
-        place,
-        refusal.room,
-        refusal.reason,
-        refusal.recording_place,
-    )
+    Refusal { place, ..refusal }
 }
 
 // The same refusal, so many bytes on.
@@ -94,11 +160,8 @@ pub fn recorded(refusal: Refusal, start: usize, base: u64) -> Refusal
     requires start_bound { base + (refusal.place - start) < 2 ^ 64 }
     ensures { result ≡ recorded base start refusal }
 {
-    make(
-        refusal.number,
-        refusal.place,
-        refusal.room,
-        refusal.reason,
-        base + (refusal.place - start) as u64,
-    )
+    Refusal {
+        recording_place: base + (refusal.place - start) as u64,
+        ..refusal
+    }
 }

@@ -9,11 +9,40 @@ use crate::TimeRule;
 pub fn time_ok(rule: TimeRule, time: u64) -> bool
     ensures { result ≡ time_ok rule time }
 {
-    time & mask_of(rule) < limit_of(rule)
+    TimeTest::from(rule).passes(time)
 }
 
-// A rule as two numbers: the bits under the mask stay below the limit. A loop takes them once.
-pub fn mask_of(rule: TimeRule) -> u64
+// A rule and its test in two numbers: the bits of a time under the mask stay below the limit. A loop makes it once.
+#[derive(Clone, Copy)]
+pub struct TimeTest {
+    pub rule: TimeRule,
+    mask: u64,
+    limit: u64,
+    ghost tests: { (mask ≡ mask_of rule) × (limit ≡ limit_of rule) },
+}
+
+impl From<TimeRule> for TimeTest {
+    ghost from_gives = { λ rule test. test.rule ≡ rule };
+
+    fn from(rule: TimeRule) -> TimeTest {
+        TimeTest {
+            rule,
+            mask: mask_of(rule),
+            limit: limit_of(rule),
+        }
+    }
+}
+
+impl TimeTest {
+    // Whether a time is in form.
+    pub fn passes(self, time: u64) -> bool
+        ensures { result ≡ time_ok self.rule time }
+    {
+        time & self.mask < self.limit
+    }
+}
+
+fn mask_of(rule: TimeRule) -> u64
     ensures { result ≡ mask_of rule }
 {
     match rule {
@@ -24,7 +53,7 @@ pub fn mask_of(rule: TimeRule) -> u64
     }
 }
 
-pub fn limit_of(rule: TimeRule) -> u64
+fn limit_of(rule: TimeRule) -> u64
     ensures { result ≡ limit_of rule }
 {
     match rule {
@@ -36,17 +65,19 @@ pub fn limit_of(rule: TimeRule) -> u64
 }
 
 // The rule of a number: 1 the counter, else 2 and the time format.
-pub fn rule_of(number: u8) -> TimeRule
-    ensures { result ≡ rule_of number }
-{
-    if number == 1 {
-        return TimeRule::Counter;
+impl From<u8> for TimeRule {
+    ghost from_gives = { λ number rule. rule ≡ rule_of number };
+
+    fn from(number: u8) -> TimeRule {
+        if number == 1 {
+            return TimeRule::Counter;
+        }
+        if number == 2 {
+            return TimeRule::Chapter4;
+        }
+        if number == 3 {
+            return TimeRule::Ieee1588;
+        }
+        TimeRule::Extended
     }
-    if number == 2 {
-        return TimeRule::Chapter4;
-    }
-    if number == 3 {
-        return TimeRule::Ieee1588;
-    }
-    TimeRule::Extended
 }

@@ -1,5 +1,5 @@
 -- Laws of numbers and their bytes, each over the width.
-use Rattle.std.proofs.Common.{◌≡◌, ℕ, zero, suc, ◌+◌, ◌*◌, ◌/◌, ◌%◌, ◌^◌, ◌<◌, Bool, true, false, ◌&&◌, eqb, List, [], ◌∷◌, ◌++◌, length, get_or, take, drop, replicate, sym, refl, ap, ◌∙◌, mod-eq_of_lt, suc-add, pow-suc, zero-add, div-one, arith, lit<, take-append-drop, eq-eqb, ne_eqb, eqb-true}
+use Rattle.std.proofs.Common.{◌≡◌, ℕ, zero, suc, ◌+◌, ◌*◌, ◌/◌, ◌%◌, ◌^◌, ◌<◌, true, false, eqb, ◌&&◌, ne_eqb, Bool, List, [], ◌∷◌, ◌++◌, length, get_or, take, drop, replicate, sym, refl, ap, ◌∙◌, mod-eq_of_lt, suc-add, pow-suc, zero-add, div-one, arith, lit<, take-append-drop, eq-eqb, eqb-true}
 use native.Mathlib.Nat.{div-div-eq-div-mul, mod-one, mod-mod, pow-succ', one-le-pow}
 use lib.Arith.{mod-mul}
 use Rattle.units.specs.Units.{Bytes, num, bytes_of, zeros}

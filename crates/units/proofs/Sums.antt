@@ -18,6 +18,10 @@ mod_cancel a b c M p e = sym (shift a) ∙ ap (λ (n : ℕ). (n + (M - c % M)) %
 
 -- ---- sums of units
 
+-- j of n units
+pub within : (w j n len : ℕ) → w * n ≤ len → j ≤ n → w * j ≤ len
+within w j n len fits few = omega (arith, mul-le-mul_left w few)
+
 -- one unit more, at the end
 pub sum_snoc : (w k : ℕ) (bs : List ℕ) → sum_units w (suc k) bs ≡ sum_units w k bs + field bs (w * k) w
 unfolding sum_units
@@ -29,24 +33,13 @@ sum_snoc w (suc k) bs =
     rw (← d) (omega arith)
 
 -- a turn of a loop that adds modulo 256 ^ w
-sum_step : (w k : ℕ) (bs : List ℕ) (acc x : ℕ) → acc ≡ checksum w k bs → x ≡ field bs (w * k) w
+pub sum_step : (w k : ℕ) (bs : List ℕ) (acc x : ℕ) → acc ≡ checksum w k bs → x ≡ field bs (w * k) w
     → (acc + x) % 256 ^ w ≡ checksum w (k + 1) bs
 sum_step w k bs acc x e f = rw (add-one, sum_snoc, e, f) (mod-add-mod (sum_units w k bs) (256 ^ w) (field bs (w * k) w))
 
--- a loop that adds up n units: k of them are added
-abbrev pub Summing : ℕ → List ℕ → ℕ → ℕ → ℕ → Type 0
-Summing w bs n k acc = (k ≤ n) × (acc ≡ checksum w k bs)
-
-pub summing_first : (w : ℕ) (bs : List ℕ) (n : ℕ) → Summing w bs n 0 0
+pub checksum_none : (w : ℕ) (bs : List ℕ) → checksum w 0 bs ≡ 0
 unfolding sum_units
-summing_first w bs n = (omega arith, sym (zero-mod (256 ^ w)))
-
-pub summing_next : (w : ℕ) (bs : List ℕ) (n k acc x sum : ℕ) → Summing w bs n k acc → k < n → x ≡ field bs (w * k) w → sum ≡ (acc + x) % 256 ^ w
-    → Summing w bs n (k + 1) sum
-summing_next w bs n k acc x sum s more is e = (omega arith, e ∙ sum_step w k bs acc x s.1 is)
-
-pub summing_last : (w : ℕ) (bs : List ℕ) (n k acc : ℕ) → Summing w bs n k acc → n ≤ k → acc ≡ checksum w n bs
-summing_last w bs n k acc s ends = let e : k ≡ n = omega (arith, s.0) in rw (← e) s.1
+checksum_none w bs = zero-mod (256 ^ w)
 
 -- j units and k behind them
 sum_parts : (w j k : ℕ) (bs : List ℕ) → sum_units w (j + k) bs ≡ sum_units w j bs + sum_units w k (drop (w * j) bs)

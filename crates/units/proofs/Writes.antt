@@ -1,7 +1,7 @@
 -- Laws of what is written: `splice`, runs of writes, and a loop that writes a byte a turn.
-use Rattle.std.proofs.Common.{◌≡◌, ℕ, ◌+◌, ◌-◌, ◌/◌, ◌%◌, ◌^◌, ◌<◌, ◌≤◌, List, [], ◌++◌, length, get_or, take, drop, set, replicate, sym, refl, ap, ◌∙◌, append_assoc, append-nil, add-zero, add-one, arith, length-append, length-drop, take-append-drop, length-take-le, drop-drop, take_at, drop-set-lt, drop_at}
-use lib.ListN.{length-replicate, replicate-append-replicate}
-use lib.Seq.{paste, paste-suc, length_paste_head, take-length, sets, sets-eq, set-append_left, take-set-lt}
+use Rattle.std.proofs.Common.{◌≡◌, ℕ, ◌+◌, ◌-◌, ◌*◌, ◌/◌, ◌%◌, ◌^◌, ◌<◌, ◌≤◌, List, [], ◌++◌, length, get_or, take, drop, set, replicate, sym, refl, ap, ◌∙◌, append_assoc, append-nil, add-zero, add-one, arith, length-append, length-drop, take-append-drop, length-take-le, drop-drop, take_at, drop-set-lt, drop_at}
+use lib.ListN.{length-replicate, get_or-replicate, replicate-append-replicate}
+use lib.Seq.{paste, paste-zero, paste-suc, length_paste_head, take-length, sets, sets-eq, set-append_left, take-set-lt}
 use Rattle.units.specs.Units.{part, bytes_of, splice}
 use Rattle.units.proofs.Numbers.{length_bytes_of, bytes_of_add, bytes_of_mod}
 use Rattle.units.proofs.Parts.{part_front}
@@ -94,6 +94,39 @@ length_paste : (d : List ℕ) (at : ℕ) (s : List ℕ) (i : ℕ) → at + i ≤
 length_paste d at s i h l =
     let f : length (take at d ++ take i s) ≡ at + i = length_paste_head d at s i (omega arith) l in
     simp (length-append (take at d ++ take i s), length-drop) (omega (arith, f))
+
+-- a loop that clears two halves side by side, a byte of each a turn: the first i of each are cleared
+abbrev pub cleared : List ℕ → ℕ → ℕ → ℕ → List ℕ
+cleared d at half i = paste (paste d at (replicate half 0) i) (at + half) (replicate half 0) i
+
+pub cleared_none : (d : List ℕ) (at half : ℕ) → cleared d at half 0 ≡ d
+cleared_none d at half =
+    let z = replicate {A = ℕ} half 0 in
+    sym (paste-zero d at z ∙ paste-zero (paste d at z 0) (at + half) z)
+
+module _ (d : List ℕ) (at half i : ℕ) (fits : at + 2 * half ≤ length d) where
+  z : List ℕ
+  z = replicate half 0
+
+  long : length (replicate {A = ℕ} half 0) ≡ half
+  long = length-replicate half 0
+
+  pub cleared_step : i < half → set (set (cleared d at half i) (at + i) 0) (at + half + i) 0 ≡ cleared d at half (i + 1)
+  unfolding z
+  cleared_step l =
+      let e : get_or z i 0 ≡ 0 = get_or-replicate half i 0 0 l in
+      let f : length (paste d at z i) ≡ length d = length_paste d at z i (omega arith) (omega (arith, long)) in
+      let g : length (paste d at z (i + 1)) ≡ length d = length_paste d at z (i + 1) (omega arith) (omega (arith, long)) in
+      rw (set_before (paste d at z i) (at + half) z i (at + i) 0 (omega arith) (omega arith), paste_step d at z i 0 (omega (arith, long)) (omega (arith, long)) e)
+      (paste_step (paste d at z (i + 1)) (at + half) z i 0 (omega (arith, long)) (omega (arith, long)) e)
+
+  pub cleared_whole : i ≡ half → cleared d at half i ≡ splice d at (replicate (2 * half) 0)
+  unfolding z
+  cleared_whole e =
+      let l : i ≡ length z = omega (arith, long) in
+      let both : z ++ z ≡ replicate (2 * half) 0 = let two : half + half ≡ 2 * half = omega arith in rw (replicate-append-replicate, two) refl in
+      rw (paste_whole d at z i l, paste_whole (splice d at z) (at + half) z i l, ← both)
+      (splice_splice d at z (omega (arith, long)) (at + half) z (omega (arith, long)) (omega (arith, long)))
 
 -- a loop that writes a list at two places, a byte of each a turn
 abbrev pub twice : List ℕ → ℕ → ℕ → List ℕ → ℕ → List ℕ

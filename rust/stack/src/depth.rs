@@ -102,30 +102,68 @@ fn points(one: &Instruction) -> bool {
 
 /// Whether the jump through a pointer at this place is by a table of the function:
 /// `lea TABLE(%rip),%B`, `movslq (%B,%I,4),%R`, `add %B,%R`, `jmp *%R`, one behind the other, and no other way in between them. Where B is rbp or r13 a
-/// distance of 0 is written out.
+/// distance of 0 is written out. A `mov` may stand between that writes neither B, while it is needed, nor R.
 fn by_table(function: &Function, index: usize) -> bool {
-    let (lea, load, add, jump) = match function.instructions.get(index.wrapping_sub(3)..=index) {
-        Some([lea, load, add, jump]) => (lea, load, add, jump),
-        _ => return false,
-    };
-    let names = |one: &Instruction, name: &str| one.mnemonic == name;
-    let base = match (&lea.relocation, &lea.operands[..]) {
-        (Some(table), [_, base]) if table.names == function.tables && names(lea, "lea") => base,
-        _ => return false,
-    };
-    let (entry, target) = match &load.operands[..] {
-        [entry, target] if names(load, "movslq") => (entry, target),
-        _ => return false,
+    four_of_table(function, index).unwrap_or(false)
+}
+
+fn four_of_table(function: &Function, index: usize) -> Option<bool> {
+    let jump = function.instructions.get(index)?;
+    let target = jump.operands.first()?.strip_prefix('*')?;
+    let (at_add, add) = behind_moves(function, index, &[target])?;
+    let base = add.operands.first()?;
+    let (at_load, load) = behind_moves(function, at_add, &[target, base])?;
+    let (_, lea) = behind_moves(function, at_load, &[base])?;
+    let (entry, loaded) = match &load.operands[..] {
+        [entry, loaded] => (entry, loaded),
+        _ => return None,
     };
     let entry = entry.strip_prefix("0x0").unwrap_or(entry);
-    entry.starts_with(&format!("({},", base))
-        && entry.ends_with(",4)")
-        && names(add, "add")
-        && add.operands == [base.clone(), target.clone()]
-        && jump.operands == [format!("*{}", target)]
-        && ![load, add, jump]
-            .iter()
-            .any(|one| jumped_to(function, one.at))
+    let named = [(add, "add"), (load, "movslq"), (lea, "lea")];
+    Some(
+        lea.relocation.as_ref()?.names == function.tables
+            && lea.operands.get(1) == Some(base)
+            && entry.starts_with(&format!("({},", base))
+            && entry.ends_with(",4)")
+            && loaded == target
+            && add.operands == [base.clone(), target.to_string()]
+            && jump.operands.len() == 1
+            && named.iter().all(|(one, name)| one.mnemonic == *name)
+            && ![load, add, jump]
+                .iter()
+                .any(|one| jumped_to(function, one.at)),
+    )
+}
+
+/// The instruction ahead of this one, where each `mov` between them, to which no jump leads, writes none of these registers.
+fn behind_moves<'a>(
+    function: &'a Function,
+    index: usize,
+    kept: &[&str],
+) -> Option<(usize, &'a Instruction)> {
+    let mut before = index.checked_sub(1)?;
+    loop {
+        let one = &function.instructions[before];
+        if one.mnemonic != "mov" {
+            return Some((before, one));
+        }
+        let written = register(one.operands.last()?)?;
+        let needed = kept.iter().any(|name| register(name) == Some(written));
+        if needed || jumped_to(function, one.at) {
+            return None;
+        }
+        before = before.checked_sub(1)?;
+    }
+}
+
+/// A general register by the part of its name that its 64 and 32 bits share; no other is known.
+fn register(name: &str) -> Option<&str> {
+    let name = name.strip_prefix('%')?;
+    let stem = name.strip_prefix(|first| first == 'r' || first == 'e')?;
+    let numbered = stem.strip_suffix('d').unwrap_or(stem);
+    let digits = name.starts_with('r') && numbered.bytes().all(|byte| byte.is_ascii_digit());
+    let lettered = ["ax", "bx", "cx", "dx", "si", "di", "bp"].contains(&stem);
+    (digits || lettered).then_some(if digits { numbered } else { stem })
 }
 
 /// Whether a jump of the function leads to this place.

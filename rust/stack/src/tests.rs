@@ -140,6 +140,17 @@ fn a_jump_by_a_table_stays_in_its_function() {
     for code in [BY_TABLE, &by_rbp] {
         assert_eq!(with(code, 5, 7), Ok(vec!["a 16 0 a 16".to_string()]));
     }
+    // A `mov` between that writes neither the table's place, while it is needed, nor the target.
+    for (text, other) in [
+        ("; movslq", "; mov    (%rsp),%rdi; movslq"),
+        ("; add", "; mov    %r9,%r8; add"),
+        ("; jmp", "; mov    %r9d,%ecx; jmp"),
+    ] {
+        assert_eq!(
+            with(&BY_TABLE.replace(text, other), 6, 8),
+            Ok(vec!["a 16 0 a 16".to_string()])
+        );
+    }
     let refused = |code: &str, first: u64, second: u64, wanted: &str| {
         let what = with(code, first, second).expect_err("it was not refused");
         assert!(what.contains(wanted), "{}", what);
@@ -154,6 +165,13 @@ fn a_jump_by_a_table_stays_in_its_function() {
         ("(%rcx,", "0x4(%rcx,"),
         ("%rbx; ret; pop", "%rbx; jmp    *%rax; pop"),
         ("pop    %rbx; ret; pop", "jmp    4 <a+0x4>; ret; pop"),
+        // A `mov` between that writes what is needed, or what is no general register; another instruction between.
+        ("; movslq", "; mov    %rdx,%rcx; movslq"),
+        ("; add", "; mov    %edx,%eax; add"),
+        ("; add", "; mov    %edx,%ecx; add"),
+        ("; jmp", "; mov    %edx,%eax; jmp"),
+        ("; jmp", "; mov    %dl,%al; jmp"),
+        ("; jmp", "; xor    %eax,%eax; jmp"),
     ] {
         assert!(BY_TABLE.contains(text));
         refused(

@@ -4,13 +4,13 @@ use Rattle.body.specs.Walk.{stamp_length}
 use Rattle.std.proofs.Common.{◌≡◌, sym, ◌∙◌, arith}
 use Rattle.builder.proofs.put_stamp.Goals as goal
 
-pub put64-requires : goal.put64-requires
+pub put-requires : goal.put-requires
 unfolding stamp_length
-put64-requires c = let e : stamp_length c.args.form ≡ 8 = simp c.in-Stamped.is in omega arith
+put-requires c = let e : stamp_length c.args.form ≡ 8 = simp c.in-Stamped.is in omega arith
 
 pub returns-in-Stamped : goal.returns-in-Stamped
 unfolding stamp_length
-returns-in-Stamped c = c.put64.ensures ∙ simp c.in-Stamped.is
+returns-in-Stamped c = c.put.ensures ∙ simp c.in-Stamped.is
 
 pub returns-in-Plain : goal.returns-in-Plain
 unfolding stamp_length bytes_of

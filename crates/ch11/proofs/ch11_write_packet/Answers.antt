@@ -8,4 +8,4 @@ use Rattle.ch11.proofs.ch11_write_packet.Goals as goal
 
 pub returns : goal.returns
 returns c =
-    ((c.written_words.ensures ∙ ap (λ x. written_words (write_told x)) c.write_given.ensures.value, refl), c.write_given.ensures.out_after ∙ ap (λ x. out_after x c.args.out.now (packet_bytes (contents (fields_of c.args.fields.now) c.args.body.now))) c.write_given.ensures.value)
+    ((c.count_words.ensures.written ∙ ap (λ x. written_words (write_told x)) c.write_given.ensures.value, refl), c.write_given.ensures.out_after ∙ ap (λ x. out_after x c.args.out.now (packet_bytes (contents (fields_of c.args.fields.now) c.args.body.now))) c.write_given.ensures.value)

@@ -3,4 +3,4 @@ use Rattle.ch11_words.proofs.refused_words.Goals as goal
 
 pub returns : goal.returns
 unfolding packet_words
-returns c = c.put_refusal.ensures
+returns c = c.refusal_alone.ensures

@@ -3,11 +3,11 @@ use Rattle.builder.specs.Build.{step_told}
 use Rattle.ch11_words.specs.Words.{draft_words}
 use Rattle.ch11_words.proofs.step_words.Goals as goal
 
-pub returns-in-Done : goal.returns-in-Done
+pub returns-in-Ok : goal.returns-in-Ok
 unfolding draft_words
-returns-in-Done c = c.put_state.ensures ∙ sym (ap (λ s. draft_words (step_told s)) c.in-Done.is)
+returns-in-Ok c = c.put_state.ensures ∙ sym (ap (λ s. draft_words (step_told s)) c.in-Ok.is)
 
-pub returns-in-Denied : goal.returns-in-Denied
+pub returns-in-Err : goal.returns-in-Err
 unfolding draft_words
-returns-in-Denied c =
-    c.put_state-in-Denied.ensures ∙ rw c.put_refusal.ensures (sym (ap (λ s. draft_words (step_told s)) c.in-Denied.is))
+returns-in-Err c =
+    c.put_state-in-Err.ensures ∙ rw c.put_refusal.ensures (sym (ap (λ s. draft_words (step_told s)) c.in-Err.is))

@@ -3,4 +3,4 @@ use Rattle.ch11_words.proofs.unrenewed_words.Goals as goal
 
 pub returns : goal.returns
 unfolding renewed_words
-returns c = c.put_refusal.ensures
+returns c = c.refusal_alone.ensures

@@ -1,5 +1,8 @@
-use Rattle.std.proofs.Common.{◌-◌}
+use Rattle.std.proofs.Common.{◌≤◌, ◌-◌}
 use Rattle.listing.proofs.show_packets.Given as goal
 
-abbrev pub decreases-loop-number : goal.decreases-loop-number
-decreases-loop-number g l = l.count - l.number
+abbrev pub invariant-loop-packet : goal.invariant-loop-packet
+invariant-loop-packet g l = (l.at ≤ l.end) × (l.number ≤ l.at)
+
+abbrev pub decreases-loop-packet : goal.decreases-loop-packet
+decreases-loop-packet g l = l.end - l.at

@@ -1,21 +1,27 @@
-use mathlib.Core.Path.{refl, sym, ◌∙◌}
 use native.Mathlib.Omega.{arith}
+use lib.ListN.{length}
+use Rattle.frame.specs.Contents.{contents}
+use Rattle.terms.proofs.Numbers.{above_none}
 use Rattle.packet.proofs.Writes.{write_refused, write_on, write_capped, written_room, out_kept, out_put}
 use Rattle.packet.proofs.write_packet.Goals as goal
 
-pub returns-then-number-ne0 : goal.returns-then-number-ne0
-returns-then-number-ne0 c = record { value = write_refused _ _ _ c.writer_refusal-number.ensures _ c.if-number-ne0.true c.refuse.ensures; out_after = out_kept _ _ _ _ refl }
+pub returns-in_err-map_err-clause-value : goal.returns-in_err-map_err-clause-value
+returns-in_err-map_err-clause-value c = grind (arith, write_refused, above_none)
+
+pub returns-in_err-map_err-clause-out_after : goal.returns-in_err-map_err-clause-out_after
+returns-in_err-map_err-clause-out_after c = grind (arith, out_kept)
+
+pub returns-in_err-written-clause-value : goal.returns-in_err-written-clause-value
+returns-in_err-written-clause-value c = grind (arith, write_on (contents c.args.fields c.args.body.now) (length c.args.out.now) c.length_for-length.result)
+
+pub returns-in_err-written-clause-out_after : goal.returns-in_err-written-clause-out_after
+returns-in_err-written-clause-out_after c = grind (arith, out_kept)
 
 pub put_packet-requires : goal.put_packet-requires
-put_packet-requires c =
-    let room = written_room _ _ _ _ (sym c.fit-answer.ensures ∙ c.in-Written.is) in
-    let small = write_capped _ _ (sym c.writer_refusal-number.ensures ∙ c.if-number-ne0.false) in
-    (c.length_for-length.ensures.0, room, omega (arith, c.length_for-length.ensures.0, small))
+put_packet-requires c = grind (arith, write_capped, written_room)
 
-pub returns-in-Written : goal.returns-in-Written
-returns-in-Written c =
-    record { value = write_on _ _ _ c.writer_refusal-number.ensures _ _ c.if-number-ne0.false c.length_for-length.ensures.0 c.fit-answer.ensures; out_after = out_put _ _ _ _ _ c.in-Written.is c.put_packet.ensures }
+pub returns-clause-value : goal.returns-clause-value
+returns-clause-value c = grind (arith, write_on (contents c.args.fields c.args.body.now) (length c.args.out.now) c.length_for-length.result)
 
-pub returns-in-Unwritten : goal.returns-in-Unwritten
-returns-in-Unwritten c =
-    record { value = write_on _ _ _ c.writer_refusal-number.ensures _ _ c.if-number-ne0.false c.length_for-length.ensures.0 c.fit-answer.ensures; out_after = out_kept _ _ _ _ c.in-Unwritten.is }
+pub returns-clause-out_after : goal.returns-clause-out_after
+returns-clause-out_after c = grind (arith, out_put)

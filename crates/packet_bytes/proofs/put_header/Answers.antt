@@ -3,4 +3,4 @@ use Rattle.packet_bytes.proofs.put_header.Goals as goal
 
 pub returns : goal.returns
 returns c =
-    head_put _ _ _ _ _ _ _ c.requires c.put_words.ensures c.header_sum-sum.ensures c.put16.ensures
+    head_put _ _ _ _ _ _ _ c.requires c.put_words.ensures c.header_sum-sum.ensures c.put.ensures

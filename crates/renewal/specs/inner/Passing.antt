@@ -1,9 +1,8 @@
 -- What the table takes from the reader: the packet's length, or the refusal.
-use Rattle.packet.specs.declared.PacketPass.{PacketPass}
-use Rattle.packet.specs.declared.PacketPass.TheVariants.{Passed, Barred}
-use Rattle.packet.specs.declared.PacketRead.{PacketRead}
-use Rattle.packet.specs.declared.PacketRead.TheVariants.{Accepted, Refused}
+use Rattle.std.specs.Prelude.{ℕ, Result, Ok, Err}
+use Rattle.packet.specs.declared.Packet.{Packet}
+use Rattle.terms.specs.declared.Refusal.{Refusal}
 
-abbrev pub pass_of : PacketRead → PacketPass
-pass_of (Accepted p) = Passed p.length
-pass_of (Refused r) = Barred r
+abbrev pub pass_of : Result Packet Refusal → Result ℕ Refusal
+pass_of (Ok p) = Ok p.length
+pass_of (Err r) = Err r

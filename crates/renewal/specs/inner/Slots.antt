@@ -1,10 +1,6 @@
--- What the one search for a slot is asked for.
-use Rattle.std.specs.Prelude.{Bool}
-use Rattle.renewal.specs.Table.{Entry, live, named, free}
-use Rattle.renewal.specs.declared.Wanted.{Wanted}
-use Rattle.renewal.specs.declared.Wanted.TheVariants.{Named, Free, Live}
+-- What a search for a slot gives.
+use Rattle.std.specs.Prelude.{◌≡◌, ℕ, ◌≤◌, ◌<◌, Option, MatchOption}
 
-abbrev pub suits : Wanted → Entry → Bool
-suits (Named recording place) e = named recording place e
-suits Free e = free e
-suits Live e = live e
+-- the slot of this number; none where the number is past the last slot's
+abbrev pub Found : ℕ → Option ℕ → Type 0
+Found n r = MatchOption r (64 ≤ n) (λ k. (k ≡ n) × (k < 64))

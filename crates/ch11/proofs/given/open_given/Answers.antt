@@ -18,14 +18,14 @@ overflow_cast-rule c =
     let h = in_byte c.args.kind c.args.rule (sym c.over_byte.ensures ∙ c.if-over_byte.false) in
     omega (arith, h.1)
 
-pub returns-in-Done : goal.returns-in-Done
-returns-in-Done c =
+pub returns-in-Ok : goal.returns-in-Ok
+returns-in-Ok c =
     let opens = c.open-step in
-    let r = opened_as _ _ _ _ _ _ c.fresh.ensures opens.ensures.value _ _ _ _ _ _ c.in-Done.is c.step_words.ensures opens.ensures.buf_after in
+    let r = opened_as _ _ _ _ _ _ c.fresh.ensures opens.ensures.value _ _ _ _ _ _ c.in-Ok.is c.step_words.ensures opens.ensures.buf_after in
     record { value = r.0; buf_after = r.1 }
 
-pub returns-in-Denied : goal.returns-in-Denied
-returns-in-Denied c =
+pub returns-in-Err : goal.returns-in-Err
+returns-in-Err c =
     let opens = c.open-step in
-    let r = unopened_as _ _ _ _ _ _ c.fresh.ensures opens.ensures.value _ _ _ _ _ _ _ c.in-Denied.is c.denied_words-in-Denied.ensures opens.ensures.buf_after in
+    let r = unopened_as _ _ _ _ _ _ c.fresh.ensures opens.ensures.value _ _ _ _ _ _ _ c.in-Err.is c.denied_words-in-Err.ensures opens.ensures.buf_after in
     record { value = r.0; buf_after = r.1 }

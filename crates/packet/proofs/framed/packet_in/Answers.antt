@@ -3,5 +3,5 @@ use Rattle.packet.proofs.framed.packet_in.Goals as goal
 
 pub returns : goal.returns
 returns c =
-    packet_is _ _ _ _ _ _ _ _ _ c.requires.sound c.measure-layout.ensures c.fields_in.ensures c.read32-length.ensures c.read32.ensures c.read16.ensures
-    c.read_sum.ensures
+    packet_is _ _ _ _ _ _ _ _ _ c.args.placed.framed.sound c.measure-layout.ensures c.fields.ensures c.read-length.ensures c.read.ensures c.read-2.ensures
+    c.stored_sum.ensures

@@ -1,0 +1,4 @@
+use Rattle.builder.proofs.Draft.is_bad.Goals as goal
+
+pub returns : goal.returns
+returns c = cc
