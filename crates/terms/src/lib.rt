@@ -146,7 +146,8 @@ pub fn placed(refusal: Refusal, place: usize) -> Refusal
     Refusal { place, ..refusal }
 }
 
-// The same refusal, so many bytes on.
+// The same refusal, so many bytes on. Callers hand a refusal on by this and by `recorded` in a `match`: tried by `map_err`, where the
+// proof didn't close, since a closure whose call asks something has no nameable result.
 pub fn moved(refusal: Refusal, by: usize) -> Refusal
     requires { by + refusal.place < 2 ^ 64 }
     ensures { result ≡ moved by refusal }
