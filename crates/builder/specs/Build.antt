@@ -41,7 +41,7 @@ form_by st = pick st Stamped Plain
 abbrev pub form_of : Draft → Form
 form_of d = form_by (stamped d.rule)
 
--- ---- opening: 17, then 16; the place of every refusal is 0, and a refused step hands back the state it was given
+-- ---- opening: 17, then 16; the place of every refusal is 0
 
 -- a step that is refused hands the state it was given back
 abbrev pub denied : Refusal → Draft → Result Draft (Refusal × Draft)

@@ -1,4 +1,4 @@
--- What the heads of blocks say from a place on. No rule of its own: heads_are proves what they are of a body that has messages.
+-- What the heads of blocks say from a place on. No rule of its own: the law `counted` (proofs/Heads.antt) says that they are a body's messages where the body has any.
 use Rattle.std.specs.Prelude.{List, [], ◌∷◌, Bool, true, ◌&&◌, ℕ, zero, suc, ◌+◌, length, ltb, leb}
 use Rattle.body.specs.declared.Form.{Form}
 use Rattle.body.specs.declared.Message.{Message}
