@@ -20,11 +20,11 @@ x86_tools
 
 # The source: what is lent is read where it is. (The compiler takes small copies out again, so that its code would not show them.) With the types of
 # slices left out, an array shows by a semicolon in brackets, or by a bracket that follows no name. None are a constant of at most 8 bytes, and of the
-# renewal table its type and the empty one, which no call hands out.
+# renewal table its type, a row that is made to be set in place, a free row, and the empty table, which no call hands out.
 brackets=$(grep -rn --include='*.rt' --exclude-dir=out '\[' crates) || fault "the source was not searched"
 arrays=$(sed -E 's/\[(u(8|16|32|64|size))?\]//g' <<<"$brackets" | grep -E '\[[^]]*;|[(,&:=] *\[' |
     grep -vE '^crates/(ch11|ch11_words|listing|promises)/|:const [A-Z]+: \[u8; [1-8]\] = ' |
-    grep -vE '^crates/renewal/.*:(pub type Table = \[Row; 64\];|    \[Row::FREE; 64\])$' || true)
+    grep -vE '^crates/renewal/.*:(pub type Table = \[Row; 64\];|    \[Row::FREE; 64\]|    pub words: \[u64; 7\],|            words: \[|    pub\(crate\) const FREE: Row = Row \{ words: \[0; 7\] \};)$' || true)
 [ -z "$arrays" ] || fault "a function below the C interface has an array of its own: $arrays"
 
 # The code: name, bytes, arguments and deepest way of each call.

@@ -12,8 +12,9 @@ use renewal::{Renewed, Table, add, next_live, renew};
 mod given;
 
 use ch11_words::{
-    COUNT, DRAFT, FIELDS, MESSAGE, PACKET, RECORDING, RENEWED, count_words, dropped_words,
-    lives_words, message_words, packet_words, recording_words, refused_words, unrenewed_words,
+    ADDED, DRAFT, FIELDS, LIST, MESSAGE, PACKET, RECORDING, RENEWED, WRITTEN, count_words,
+    dropped_words, lives_words, message_words, packet_words, recording_words, refused_words,
+    unrenewed_words,
 };
 use given::{add_given, close_given, open_given, write_given};
 
@@ -49,7 +50,7 @@ pub extern "C" fn ch11_list_messages(
     base: u64,
     starts: &mut [u32],
     lengths: &mut [u32],
-    list: &mut [u64; COUNT],
+    list: &mut [u64; LIST],
 ) -> u64
     ensures { ListMessages buf.now start end base starts.old lengths.old result list.new starts.new lengths.new }
 {
@@ -94,7 +95,7 @@ pub extern "C" fn ch11_write_packet(
     fields: &[u64; FIELDS],
     body: &[u8],
     out: &mut [u8],
-    written: &mut [u64; COUNT],
+    written: &mut [u64; WRITTEN],
 ) -> u64
     ensures { WritePacket fields.now body.now out.old result written.new out.new }
 {
@@ -145,7 +146,7 @@ pub extern "C" fn ch11_renewal_add(
     buf: &[u8],
     start: usize,
     end: usize,
-    added: &mut [u64; COUNT],
+    added: &mut [u64; ADDED],
 ) -> u64
     ensures { RenewalAdd table.old store.old recording place buf.now start end result added.new table.new store.new }
 {

@@ -25,7 +25,14 @@ pub const FIELDS: usize = 7;
 
 pub const PACKET: usize = REFUSAL + FIELDS + 15;
 
+// Of the structs that are a refusal and a number.
 pub const COUNT: usize = REFUSAL + 1;
+
+pub const LIST: usize = COUNT;
+
+pub const WRITTEN: usize = COUNT;
+
+pub const ADDED: usize = COUNT;
 
 pub const MESSAGE: usize = REFUSAL + 4;
 

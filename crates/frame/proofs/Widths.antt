@@ -15,6 +15,9 @@ width_is (suc (suc zero)) h = refl
 width_is (suc (suc (suc n))) h = absurd (omega arith)
 
 -- one byte stored
-pub put_one : (bs : List ℕ) (at v : ℕ) → v < 256 → at + 1 ≤ length bs → set bs at v ≡ splice bs at (bytes_of 1 v)
+pub put_one : (bs : List ℕ) (at v : ℕ) → at + 1 ≤ length bs → set bs at (v % 256) ≡ splice bs at (bytes_of 1 v)
 unfolding bytes_of
-put_one bs at v small h = let e : v ≡ v % 256 = omega arith in ap (set bs at) e ∙ stored 1 v bs at h
+put_one bs at v h = stored 1 v bs at h
+
+pub put_byte : (bs : List ℕ) (at v : ℕ) → v < 256 → at + 1 ≤ length bs → set bs at v ≡ splice bs at (bytes_of 1 v)
+put_byte bs at v small h = let e : v ≡ v % 256 = omega arith in ap (set bs at) e ∙ put_one bs at v h

@@ -1,5 +1,5 @@
 -- The three sums of a packet (document 01, "Primary header", "Secondary header" and "Trailer").
-use Rattle.std.specs.Prelude.{List, ℕ, zero, suc, ◌/◌, length}
+use Rattle.std.specs.Prelude.{List, ℕ, zero, suc, ◌/◌, length, Option, Some, None}
 use Rattle.units.specs.Units.{checksum}
 use Rattle.frame.specs.declared.sums.Width.{Width}
 use Rattle.frame.specs.declared.sums.Width.TheVariants.{Bits8, Bits16, Bits32}
@@ -17,6 +17,11 @@ abbrev pub code_of : Width → ℕ
 code_of Bits8 = 1
 code_of Bits16 = 2
 code_of Bits32 = 3
+
+-- and for none
+abbrev pub code_in : Option Width → ℕ
+code_in None = 0
+code_in (Some width) = code_of width
 
 -- the data sum's width in bytes, by bits 1-0 of the flags: none, 8, 16 or 32 bits
 abbrev pub sum_width : ℕ → ℕ

@@ -54,10 +54,7 @@ impl<'a> Framed<'a> {
     pub fn stored_sum(self) -> u32
         ensures { result ≡ data_sum_in self.entry.bytes.now }
     {
-        match Width::of(self.bytes[14]) {
-            Some(width) => read_sum(self.bytes, self.measure().sum, width),
-            None => 0,
-        }
+        read_sum(self.bytes, self.measure().sum, Width::of(self.bytes[14]))
     }
 
     // The secondary header, if there is one.

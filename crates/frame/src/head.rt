@@ -1,7 +1,7 @@
 // The sync bytes, and the data sum as it is stored.
 ghost use Rattle.std.specs.Prelude.{◌≡◌, ◌+◌, ◌≤◌, length};
 ghost use Rattle.units.specs.Units.{field, splice};
-ghost use Rattle.frame.specs.Sums.{code_of, sum_width};
+ghost use Rattle.frame.specs.Sums.{code_in, sum_width};
 ghost use Rattle.frame.specs.Rules.{synced};
 ghost use Rattle.frame.specs.Header.{sync};
 
@@ -25,15 +25,16 @@ pub fn put_sync(out: &mut [u8])
     copy_at(out, 0, &SYNC);
 }
 
-// The data sum in the bytes from `at` on.
+// The data sum in the bytes from `at` on; 0 if there is none.
 #[tactic(auto, using(units::proofs::Parts::field_one), unfolding(units::specs::Units::num))]
-pub fn read_sum(w: &[u8], at: usize, width: Width) -> u32
-    requires { at + sum_width (code_of width) ≤ length w.now }
-    ensures { result ≡ field w.now at (sum_width (code_of width)) }
+pub fn read_sum(w: &[u8], at: usize, width: Option<Width>) -> u32
+    requires { at + sum_width (code_in width) ≤ length w.now }
+    ensures { result ≡ field w.now at (sum_width (code_in width)) }
 {
     match width {
-        Width::Bits8 => w[at] as u32,
-        Width::Bits16 => u16::read(w, at) as u32,
-        Width::Bits32 => u32::read(w, at),
+        Some(Width::Bits8) => w[at] as u32,
+        Some(Width::Bits16) => u16::read(w, at) as u32,
+        Some(Width::Bits32) => u32::read(w, at),
+        None => 0,
     }
 }

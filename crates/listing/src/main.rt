@@ -13,34 +13,40 @@ use recording::{Recording, read_recording};
 use std::io;
 use std::io::Read;
 
-// The lines that the packet's fields give: each a key name with its `=`, and a number, as all lines.
+// Writes a line: a key name with its `=`, and a number. One function for all lines, so that what prints them has its room on the stack
+// once, and with the `=` in the name, since each further piece takes longer.
+fn line(rt: &impl Print, key: &str, value: u64) -> io::Result<()> {
+    println!(rt; "{key}{value}")
+}
+
+// The lines that the packet's fields give.
 fn show_fields(rt: &impl Print, fields: Fields) -> io::Result<()> {
-    println!(rt; "channel={}", fields.channel)?;
-    println!(rt; "type={}", fields.kind)?;
-    println!(rt; "version={}", fields.version)?;
-    println!(rt; "sequence={}", fields.sequence)?;
-    println!(rt; "flags={}", fields.flags)?;
-    println!(rt; "rtc={}", fields.rtc)?;
-    println!(rt; "time={}", fields.time)
+    line(rt, "channel=", u64::from(fields.channel))?;
+    line(rt, "type=", u64::from(fields.kind))?;
+    line(rt, "version=", u64::from(fields.version))?;
+    line(rt, "sequence=", u64::from(fields.sequence))?;
+    line(rt, "flags=", u64::from(fields.flags))?;
+    line(rt, "rtc=", fields.rtc)?;
+    line(rt, "time=", fields.time)
 }
 
 // The lines of a packet.
 fn show_packet(rt: &impl Print, number: usize, packet: Packet, messages: usize) -> io::Result<()> {
-    println!(rt; "packet={number}")?;
-    println!(rt; "at={}", packet.recording_place)?;
-    println!(rt; "length={}", packet.length)?;
+    line(rt, "packet=", number as u64)?;
+    line(rt, "at=", packet.recording_place)?;
+    line(rt, "length=", u64::from(packet.length))?;
     show_fields(rt, packet.fields)?;
-    println!(rt; "body={}", packet.body.length)?;
-    println!(rt; "filler={}", packet.filler.length)?;
-    println!(rt; "sum={}", packet.data_sum)?;
-    println!(rt; "messages={messages}")
+    line(rt, "body=", packet.body.length as u64)?;
+    line(rt, "filler=", packet.filler.length as u64)?;
+    line(rt, "sum=", u64::from(packet.data_sum))?;
+    line(rt, "messages=", messages as u64)
 }
 
 // The three last lines.
 fn show_end(rt: &impl Print, recording: Recording) -> io::Result<()> {
-    println!(rt; "packets={}", recording.accepted)?;
-    println!(rt; "bytes={}", recording.reached)?;
-    println!(rt; "answer={}", recording.refusal.number)
+    line(rt, "packets=", recording.accepted as u64)?;
+    line(rt, "bytes=", recording.reached as u64)?;
+    line(rt, "answer=", u64::from(recording.refusal.number))
 }
 
 // How many messages the packet at `at` has, 0 if its type isn't opened. Lent no entries, the lister says 0 or asks for the room of
@@ -54,16 +60,16 @@ fn message_count(buf: &[u8], at: usize, end: usize) -> usize
     }
 }
 
-// Shows the packets that are accepted, each at the end of the one before: where it stands is known from that one alone, so the place is
-// kept, and the number beside it.
-fn show_packets(rt: &impl Print, buf: &[u8]) -> io::Result<()> {
+// Shows so many packets, each at the end of the one before: where it stands is known from that one alone, so the place is kept.
+fn show_packets(rt: &impl Print, buf: &[u8], count: usize) -> io::Result<()> {
     let end = buf.len();
     let mut at = 0;
-    let mut number = 0;
-    while let Ok(packet) = read_packet(buf, at, end, at as u64) {
+    for number in 0..count {
+        let Ok(packet) = read_packet(buf, at, end, at as u64) else {
+            break;
+        };
         show_packet(rt, number, packet, message_count(buf, at, end))?;
         at += packet.length as usize;
-        number += 1;
     }
     Ok(())
 }
@@ -72,10 +78,11 @@ fn show_packets(rt: &impl Print, buf: &[u8]) -> io::Result<()> {
 // packet's base.
 fn list(rt: &impl Print, buf: &[u8]) -> io::Result<()> {
     if 65536 < buf.len() {
-        return println!(rt; "answer=1");
+        return line(rt, "answer=", 1);
     }
-    show_packets(rt, buf)?;
-    show_end(rt, read_recording(buf, 0, buf.len(), 0))
+    let recording = read_recording(buf, 0, buf.len(), 0);
+    show_packets(rt, buf, recording.accepted)?;
+    show_end(rt, recording)
 }
 
 // Reads standard input to its end, or until the room is full: how many bytes. std fills no room of a fixed size, and the program uses no

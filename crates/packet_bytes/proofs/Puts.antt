@@ -135,13 +135,13 @@ filled_put body b₀ b₁ b₂ at end before fits e₁ e₂ =
     let n = end - (at + length body) in
     chain b₀ b₁ b₂ at (at + length body) body (replicate n 0) e₁ e₂ refl (omega (arith, length-replicate {A = ℕ} n 0))
 
-coded_put : (f : ℕ) (body b₀ b₁ b₂ : List ℕ) (p at w sum : ℕ) → p ≡ length_for f (length body) → p ≤ length b₀ → at ≡ body_at f → w ≡ sum_length f
+pub data_put : (f : ℕ) (body b₀ b₁ b₂ : List ℕ) (p at w sum : ℕ) → p ≡ length_for f (length body) → p ≤ length b₀ → at ≡ body_at f → w ≡ sum_length f
     → b₁ ≡ splice b₀ at (body ++ replicate (p - w - (at + length body)) 0)
     → sum ≡ data_sum (sum_code f) (part b₁ at (p - w - at))
     → b₂ ≡ splice b₁ (p - w) (bytes_of (sum_length f) sum)
     → b₂ ≡ splice b₀ (body_at f) (data_bytes f body)
 unfolding body_and_filler_bytes data_bytes
-coded_put f body b₀ b₁ b₂ p at w sum is fits here wide e₁ s e₂ =
+data_put f body b₀ b₁ b₂ p at w sum is fits here wide e₁ s e₂ =
     let fs = body_and_filler_bytes f body in
     let l : length fs ≡ length body + filler_for f (length body) = length_filled f body in
     let n : p - w - (at + length body) ≡ filler_for f (length body) = omega arith in
@@ -155,12 +155,12 @@ coded_put f body b₀ b₁ b₂ p at w sum is fits here wide e₁ s e₂ =
     chain b₀ b₁ b₂ (body_at f) (p - w) fs v f₁ f₂ (omega arith) (omega arith)
 
 -- code is that of the width by which the code sums and writes
-pub data_put : (f code : ℕ) (body b₀ b₁ b₂ : List ℕ) (p at w : ℕ) → code ≡ sum_code f → p ≡ length_for f (length body) → p ≤ length b₀ → at ≡ body_at f → w ≡ sum_width code
+pub width_put : (f code : ℕ) (body b₀ b₁ b₂ : List ℕ) (p at w : ℕ) → code ≡ sum_code f → p ≡ length_for f (length body) → p ≤ length b₀ → at ≡ body_at f → w ≡ sum_width code
     → b₁ ≡ splice b₀ at (body ++ replicate (p - w - (at + length body)) 0)
     → b₂ ≡ splice b₁ (p - w) (bytes_of (sum_width code) (data_sum code (part b₁ at (p - w - at))))
     → b₂ ≡ splice b₀ (body_at f) (data_bytes f body)
-data_put f code body b₀ b₁ b₂ p at w coded is fits here wide e₁ e₂ =
-    coded_put f body b₀ b₁ b₂ p at w _ is fits here (wide ∙ ap sum_width coded) e₁ refl
+width_put f code body b₀ b₁ b₂ p at w coded is fits here wide e₁ e₂ =
+    data_put f body b₀ b₁ b₂ p at w _ is fits here (wide ∙ ap sum_width coded) e₁ refl
     (e₂ ∙ ap (λ (n : ℕ). splice b₁ (p - w) (bytes_of (sum_width n) (data_sum n (part b₁ at (p - w - at))))) coded)
 
 -- where there is no sum
@@ -169,7 +169,7 @@ pub unsummed_put : (f : ℕ) (body b₀ b₁ : List ℕ) (p at w : ℕ) → sum_
     → b₁ ≡ splice b₀ (body_at f) (data_bytes f body)
 unfolding bytes_of
 unsummed_put f body b₀ b₁ p at w z is fits here wide e₁ =
-    data_put f 0 body b₀ b₁ b₁ p at w (sym z) is fits here (wide ∙ ap sum_width z) e₁ (sym (splice_none b₁ (p - w)))
+    width_put f 0 body b₀ b₁ b₁ p at w (sym z) is fits here (wide ∙ ap sum_width z) e₁ (sym (splice_none b₁ (p - w)))
 
 -- ---- the packet
 

@@ -1,10 +1,11 @@
 -- What adding says and leaves behind, path by path.
 use Rattle.std.specs.Prelude.{Result, Ok, Err}
-use mathlib.Core.Path.{◌≡◌, ap, ◌∙◌}
+use mathlib.Core.Path.{◌≡◌, refl, ap, ◌∙◌}
 use mathlib.Core.List.{List}
-use Prim.Native.Nat.{ℕ, ◌≤◌, ◌<◌}
-use lib.ListN.{take}
+use Prim.Native.Nat.{ℕ, ◌*◌, ◌≤◌, ◌<◌}
+use lib.ListN.{take, set}
 use borrow.Author.Tests.{lt-ltb, le-ltb, le-leb, lt-leb}
+use Rattle.units.specs.Units.{splice}
 use Rattle.terms.specs.declared.Refusal.{Refusal}
 use Rattle.frame.specs.Header.{packet_length}
 use Rattle.packet.specs.Read.{packet_in, read_packet}
@@ -26,7 +27,23 @@ module _ (t : List Entry) (recording place start n : ℕ) where
     unfolding put_answer
     put_goes k (is, h) = rw (le-ltb 1024 n short, ← is) (rw (lt-leb 64 k h))
 
--- ---- what is left
+-- ---- what a refusal leaves, and what an entry does
+
+pub table_left : (r : Refusal) (t : List Entry) (e : Entry) → t ≡ table_added (Err r) t e
+unfolding table_added
+table_left r t e = refl
+
+pub store_left : (r : Refusal) (store bytes : List ℕ) → store ≡ store_added (Err r) store bytes
+unfolding store_added
+store_left r store bytes = refl
+
+pub table_set : (k : ℕ) (t : List Entry) (e : Entry) → set t k e ≡ table_added (Ok k) t e
+unfolding table_added
+table_set k t e = refl
+
+pub store_set : (k : ℕ) (store bytes : List ℕ) → splice store (k * 1024) bytes ≡ store_added (Ok k) store bytes
+unfolding store_added
+store_set k store bytes = refl
 
 -- where a packet's bytes stand in their buffer has no say in its entry
 pub table_anywhere : (x : Result ℕ Refusal) (t u : List Entry) (recording place at : ℕ) (w : List ℕ)

@@ -1,6 +1,6 @@
 -- What renewing says and leaves behind, path by path.
 use Rattle.std.specs.Prelude.{Result, Ok, Err}
-use mathlib.Core.Path.{◌≡◌, sym, ap, ◌∙◌}
+use mathlib.Core.Path.{◌≡◌, refl, sym, ap, ◌∙◌}
 use mathlib.Core.List.{List}
 use mathlib.Core.Bool.{Bool, true, false}
 use Prim.Native.Nat.{ℕ, ◌*◌, ◌≤◌, ◌<◌}
@@ -14,7 +14,7 @@ use Rattle.terms.specs.Refusals.{no_refusal}
 use Rattle.terms.specs.declared.Refusal.{Refusal}
 use Rattle.packet.specs.Read.{inside, window, read_packet}
 use Rattle.renewal.specs.Table.{Entry, length_of, entry, slot_of}
-use Rattle.renewal.specs.Renewal.{barred, store_small, own_bytes, holds, judged, renew_entry}
+use Rattle.renewal.specs.Renewal.{barred, store_small, own_bytes, holds, judged, renew_entry, table_renewed}
 use Rattle.packet.proofs.Window.{own_part}
 use Rattle.renewal.proofs.Passing.{Taken}
 use Rattle.renewal.specs.declared.Renewed.{Renewed}
@@ -82,3 +82,9 @@ module _ (t : List Entry) (store : List ℕ) (recording place : ℕ) (buf : List
           → x ≡ judged (read_packet buf s e place) store k (length_of (entry t k)) (window buf s e) → x ≡ told
       unfolding renew_entry
       renew_judged x i is = rw (le-ltb (length store) 65536 room, ← slot) (rw (lt-leb 64 k low, i) is)
+
+-- ---- what a refusal leaves
+
+pub table_kept : (r : Refusal) (t : List Entry) (k : ℕ) → t ≡ table_renewed (Err r) t k
+unfolding table_renewed
+table_kept r t k = refl

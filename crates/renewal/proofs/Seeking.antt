@@ -65,16 +65,27 @@ module _ (t : List Entry) (all : length t ≡ 64) (r : Option ℕ) where
     pub slot_none : r ≡ None → 64 ≤ slot_of recording place t
     slot_none none = omega (arith, all, none_found (named recording place) t (sym is ∙ none))
 
-    pub home_own : (k : ℕ) → r ≡ Some k → Found (home_of recording place t) (Some k)
+    pub found_own : (k : ℕ) → r ≡ Some k → Found (home_of recording place t) (Some k)
     unfolding home_of
-    home_own k some =
+    found_own k some =
         let own = slot_found k some in
         rw (← own.0, lt-ltb k 64 own.1) (refl, own.1)
 
-    pub home_free : r ≡ None → (q : Option ℕ) → q ≡ position free t → Found (home_of recording place t) q
+    pub found_free : r ≡ None → (q : Option ℕ) → q ≡ position free t → Found (home_of recording place t) q
     unfolding home_of
-    home_free none q low = rw (le-ltb (slot_of recording place t) 64 (slot_none none)) (go q low)
+    found_free none q low = rw (le-ltb (slot_of recording place t) 64 (slot_none none)) (go q low)
       where
         go : (q : Option ℕ) → q ≡ position free t → Found (free_of t) q
         go (Some k) low = let first = found free t k (sym low) in (first.0, omega (arith, all, first.1))
         go None low = omega (arith, all, none_found free t (sym low))
+
+-- ---- of any table
+
+module _ (t : List Entry) (recording place k : ℕ) (is : k ≡ slot_of recording place t) where
+  pub home_own : k < 64 → k ≡ home_of recording place t
+  unfolding home_of
+  home_own h = rw (← is) (rw (lt-ltb k 64 h))
+
+  pub home_free : 64 ≤ k → free_of t ≡ home_of recording place t
+  unfolding home_of
+  home_free h = rw (← is) (rw (le-ltb k 64 h))

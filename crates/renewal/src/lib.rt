@@ -13,11 +13,11 @@ use terms::{Number, Refusal, no_refusal, no_room, recorded, refuse};
 use units::{copy_at, equal};
 
 mod reading;
-mod slots;
+pub mod slots;
 
 use reading::pass_window;
 pub use slots::{Row, Table};
-use slots::{home_of, live_behind, slot_of};
+use slots::{LENGTH, home_of, live_behind, slot_of};
 
 // What became of an entry: it lives on; or it is dropped, with the reader's refusal or `no_refusal`, as the theorem
 // `answers_dropped` tells it.
@@ -186,7 +186,7 @@ pub fn renew(
     };
     window_bytes(buf, start, end, place)?;
     let row = &table[k];
-    let told = judge(store, k, row.length, buf, start, end, place);
+    let told = judge(store, k, row.words[LENGTH], buf, start, end, place);
     settle(table, k, told);
     Ok(told)
 }

@@ -7,43 +7,44 @@ ghost use Rattle.renewal.specs.inner.Slots.{Found};
 use std::marker::Model;
 use units::{InBytes, read48};
 
-// A slot's row, as C lends it: whether its entry lives (any number but 0), recording number, place, P, channel, sequence, RTC. A contract
-// sees the list of these words.
+// A slot's row, as C lends it: whether its entry lives (any number but 0), recording number, place, P, channel, sequence, RTC. Seven words
+// in their order, so that what a contract says of the list of them holds of the memory that is lent.
 #[repr(C)]
-#[derive(Clone, Copy)]
+#[derive(Clone, Copy, Default, PartialEq, Eq, PartialOrd, Ord, Hash, Debug)]
 pub struct Row {
-    pub live: u64,
-    pub recording: u64,
-    pub place: u64,
-    pub length: u64,
-    pub channel: u64,
-    pub sequence: u64,
-    pub rtc: u64,
+    pub words: [u64; 7],
 }
 
+// Where these words stand.
+pub const LIVE: usize = 0;
+
+pub const RECORDING: usize = 1;
+
+pub const PLACE: usize = 2;
+
+pub const LENGTH: usize = 3;
+
+pub const CHANNEL: usize = 4;
+
+pub const SEQUENCE: usize = 5;
+
+pub const RTC: usize = 6;
+
 impl Model for Row {
-    ghost use Rattle.std.specs.Prelude.{ℕ, List, [], ◌∷◌, get_or};
+    ghost use Rattle.std.specs.Prelude.{ℕ, List};
 
     ghost Value = { List ℕ };
 
-    ghost view = { λ r. r.live ∷ r.recording ∷ r.place ∷ r.length ∷ r.channel ∷ r.sequence ∷ r.rtc ∷ [] };
+    ghost view = { λ r. r.words };
 
-    ghost inverse = { λ ws. record { live = get_or ws 0 0; recording = get_or ws 1 0; place = get_or ws 2 0; length = get_or ws 3 0; channel = get_or ws 4 0; sequence = get_or ws 5 0; rtc = get_or ws 6 0 } };
+    ghost inverse = { λ ws. record { words = ws } };
 }
 
 pub type Table = [Row; 64];
 
 impl Row {
     // That of a free slot.
-    pub(crate) const FREE: Row = Row {
-        live: 0,
-        recording: 0,
-        place: 0,
-        length: 0,
-        channel: 0,
-        sequence: 0,
-        rtc: 0,
-    };
+    pub(crate) const FREE: Row = Row { words: [0; 7] };
 
     // The entry of the packet at the start of a window's bytes, which stands at this place in this recording.
     pub(crate) fn of_packet(recording: u64, place: u64, w: &[u8]) -> Row
@@ -51,13 +52,15 @@ impl Row {
         ensures { result ≡ entry_of recording (packet_in w.now 0 place) }
     {
         Row {
-            live: 1,
-            recording,
-            place,
-            length: u64::from(u32::read(w, 4)),
-            channel: u64::from(u16::read(w, 2)),
-            sequence: u64::from(w[13]),
-            rtc: read48(w, 16),
+            words: [
+                1,
+                recording,
+                place,
+                u64::from(u32::read(w, 4)),
+                u64::from(u16::read(w, 2)),
+                u64::from(w[13]),
+                read48(w, 16),
+            ],
         }
     }
 
@@ -65,14 +68,14 @@ impl Row {
     fn is_free(&self) -> bool
         ensures { result ≡ free self.now }
     {
-        self.live == 0
+        self.words[LIVE] == 0
     }
 
     // Whether an entry of this name lives here. The place stands first: it differs most often, and the compiled search stops there.
     fn is_named(&self, recording: u64, place: u64) -> bool
         ensures { result ≡ named recording place self.now }
     {
-        self.place == place && self.recording == recording && self.live != 0
+        self.words[PLACE] == place && self.words[RECORDING] == recording && self.words[LIVE] != 0
     }
 }
 
@@ -98,7 +101,7 @@ pub fn live_behind(table: &Table, from: usize) -> Option<usize>
 }
 
 // Where a name is to be held.
-#[tactic(auto, using(crate::proofs::Seeking::home_own, crate::proofs::Seeking::home_free))]
+#[tactic(auto, using(crate::proofs::Seeking::found_own, crate::proofs::Seeking::found_free))]
 pub fn home_of(table: &Table, recording: u64, place: u64) -> Option<usize>
     ensures { Found (home_of recording place table.now) result }
 {

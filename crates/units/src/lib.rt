@@ -203,11 +203,36 @@ pub fn all_zero(s: &[u8]) -> bool
     true
 }
 
-// Whether two runs of bytes are equal.
+// Whether two long runs of bytes are equal, byte by byte to the end: the compiler makes vector code of a walk that does not stop.
+fn equal_bytes(a: &[u8], b: &[u8]) -> bool
+    requires { length a.now ≡ length b.now }
+    ensures { result ≡ same a.now b.now }
+{
+    let mut e = true;
+    for i in 0..a.len() {
+        e = e & (a[i] == b[i]);
+    }
+    e
+}
+
+// Whether two runs of bytes are equal: of over 64 bytes whole lines of 32, and where bytes are left over the last 32, some of them
+// again. `==` alone looks at up to two lines more, and misses docs/BENCH.md's 1.2 at packets of 96 to 1,024 bytes.
 pub fn equal(a: &[u8], b: &[u8]) -> bool
     ensures { result ≡ same a.now b.now }
 {
-    a == b
+    let n = a.len();
+    if n != b.len() {
+        return false;
+    }
+    if n <= 64 {
+        return a == b;
+    }
+    let lines = n - n % 32;
+    let front = equal_bytes(&a[0..lines], &b[0..lines]);
+    if lines == n {
+        return front;
+    }
+    front & equal_bytes(&a[n - 32..n], &b[n - 32..n])
 }
 
 // The k-th unit of s.

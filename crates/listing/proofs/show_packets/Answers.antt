@@ -2,12 +2,7 @@ use Rattle.std.proofs.Common.{sym, ◌∙◌, arith}
 use Rattle.packet.proofs.Own.{accepted_fits}
 use Rattle.listing.proofs.show_packets.Goals as goal
 
-pub loop-packet-smaller : goal.loop-packet-smaller
-loop-packet-smaller g c =
+pub loop-number-preserved : goal.loop-number-preserved
+loop-number-preserved g c =
     let k = accepted_fits _ _ _ _ c.in-Ok.packet (sym c.read_packet.ensures ∙ c.in-Ok.is) in
     omega (arith, k)
-
-pub loop-packet-preserved : goal.loop-packet-preserved
-loop-packet-preserved g c =
-    let k = accepted_fits _ _ _ _ c.in-Ok.packet (sym c.read_packet.ensures ∙ c.in-Ok.is) in
-    (omega (arith, k), omega (arith, k, c.loop-packet.invariant))

@@ -3,7 +3,7 @@ use Rattle.std.proofs.lemmas.Result.{err_from_is_err_and}
 use mathlib.Core.Path.{◌≡◌, refl, sym, ap, ◌∙◌}
 use Prim.Native.Nat.{◌<◌}
 use native.Mathlib.Omega.{arith}
-use lib.ListN.{length}
+use lib.ListN.{length, get_or}
 use Rattle.std.proofs.lemmas.List.{get_or_default}
 use Rattle.renewal.specs.Table.{length_of, entry}
 use Rattle.renewal.specs.Renewal.{table_renewed}
@@ -39,7 +39,7 @@ pub returns : goal.returns
 returns c =
     let own = slot_found _ c.told-table _ _ _ c.slot_of.ensures _ c.in-Some.is in
     let low : c.in-Some.k < length c.args.table.now = omega (arith, c.told-table, own.1) in
-    let row : length_of (entry c.args.table.now c.in-Some.k) ≡ c.row.inside.length =
+    let row : length_of (entry c.args.table.now c.in-Some.k) ≡ get_or c.row.inside.words 3 0 =
     ap length_of (get_or_default _ _ _ _ low ∙ sym c.row.view_is) in
     record {
       value = renew_judged _ _ _ _ _ _ _ c.if-store-lt65536.false _ own.0 own.1 _
