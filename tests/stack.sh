@@ -22,7 +22,7 @@ x86_tools
 # slices left out, an array shows by a semicolon in brackets, or by a bracket that follows no name. None are a constant of at most 8 bytes, and of the
 # renewal table its type, a row that is made to be set in place, a free row, and the empty table, which no call hands out.
 brackets=$(grep -rn --include='*.rt' --exclude-dir=out '\[' crates) || fault "the source was not searched"
-arrays=$(sed -E 's/\[(u(8|16|32|64|size))?\]//g' <<<"$brackets" | grep -E '\[[^]]*;|[(,&:=] *\[' |
+arrays=$(sed -E 's/\[(u(8|16|32|64|size)|Row)?\]//g' <<<"$brackets" | grep -E '\[[^]]*;|[(,&:=] *\[' |
     grep -vE '^crates/(ch11|ch11_words|listing|promises)/|:const [A-Z]+: \[u8; [1-8]\] = ' |
     grep -vE '^crates/renewal/.*:(pub type Table = \[Row; 64\];|    \[Row::FREE; 64\]|    pub words: \[u64; 7\],|            words: \[|    pub\(crate\) const FREE: Row = Row \{ words: \[0; 7\] \};)$' || true)
 [ -z "$arrays" ] || fault "a function below the C interface has an array of its own: $arrays"

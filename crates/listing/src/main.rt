@@ -13,14 +13,18 @@ use recording::{Recording, read_recording};
 use std::io;
 use std::io::Read;
 
+// Standard output can't be written: by which error, nobody asks.
+#[derive(Clone, Copy)]
+struct Unwritten;
+
 // Writes a line: a key name with its `=`, and a number. One function for all lines, so that what prints them has its room on the stack
 // once, and with the `=` in the name, since each further piece takes longer.
-fn line(rt: &impl Print, key: &str, value: u64) -> io::Result<()> {
-    println!(rt; "{key}{value}")
+fn line(rt: &impl Print, key: &str, value: u64) -> Result<(), Unwritten> {
+    println!(rt; "{key}{value}").map_err(|_| Unwritten)
 }
 
 // The lines that the packet's fields give.
-fn show_fields(rt: &impl Print, fields: Fields) -> io::Result<()> {
+fn show_fields(rt: &impl Print, fields: Fields) -> Result<(), Unwritten> {
     line(rt, "channel=", u64::from(fields.channel))?;
     line(rt, "type=", u64::from(fields.kind))?;
     line(rt, "version=", u64::from(fields.version))?;
@@ -31,7 +35,12 @@ fn show_fields(rt: &impl Print, fields: Fields) -> io::Result<()> {
 }
 
 // The lines of a packet.
-fn show_packet(rt: &impl Print, number: usize, packet: Packet, messages: usize) -> io::Result<()> {
+fn show_packet(
+    rt: &impl Print,
+    number: usize,
+    packet: Packet,
+    messages: usize,
+) -> Result<(), Unwritten> {
     line(rt, "packet=", number as u64)?;
     line(rt, "at=", packet.recording_place)?;
     line(rt, "length=", u64::from(packet.length))?;
@@ -43,7 +52,7 @@ fn show_packet(rt: &impl Print, number: usize, packet: Packet, messages: usize) 
 }
 
 // The three last lines.
-fn show_end(rt: &impl Print, recording: Recording) -> io::Result<()> {
+fn show_end(rt: &impl Print, recording: Recording) -> Result<(), Unwritten> {
     line(rt, "packets=", recording.accepted as u64)?;
     line(rt, "bytes=", recording.reached as u64)?;
     line(rt, "answer=", u64::from(recording.refusal.number))
@@ -61,7 +70,7 @@ fn message_count(buf: &[u8], at: usize, end: usize) -> usize
 }
 
 // Shows so many packets, each at the end of the one before: where it stands is known from that one alone, so the place is kept.
-fn show_packets(rt: &impl Print, buf: &[u8], count: usize) -> io::Result<()> {
+fn show_packets(rt: &impl Print, buf: &[u8], count: usize) -> Result<(), Unwritten> {
     let end = buf.len();
     let mut at = 0;
     for number in 0..count {
@@ -76,7 +85,7 @@ fn show_packets(rt: &impl Print, buf: &[u8], count: usize) -> io::Result<()> {
 
 // Lists a recording of up to 65,536 bytes. The buffer begins with its first byte: a place in the one is a place in the other, and so a
 // packet's base.
-fn list(rt: &impl Print, buf: &[u8]) -> io::Result<()> {
+fn list(rt: &impl Print, buf: &[u8]) -> Result<(), Unwritten> {
     if 65536 < buf.len() {
         return line(rt, "answer=", 1);
     }
